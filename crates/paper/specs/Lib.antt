@@ -5,3 +5,5 @@ pub mod Tree
 pub mod Entry
 pub mod Sheet
 pub mod Price
+pub mod Image
+pub mod Lines
