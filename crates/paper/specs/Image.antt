@@ -201,7 +201,7 @@ grammarOf b =
       nonterminals = byte (body b 0) 1;
       start = byte (body b 0) 2;
       rules = rulesOf (byte (body b 1) 0) (drop 1 (body b 1));
-      precedes = paired (imagePairs b)
+      precedes = paired (imagePairs b);
     }
 
 -- 01: "The house grammar G is built into the program as a constant table of 36 bytes"

@@ -7,3 +7,4 @@ pub mod Sheet
 pub mod Price
 pub mod Image
 pub mod Lines
+pub mod Outcome

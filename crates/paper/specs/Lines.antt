@@ -88,13 +88,13 @@ pub record Valid (g : Grammar) (row ns : List ℕ) : Type 0 where
 
 -- 01: "The checker answers valid, or the first line at fault; a fault of the whole .. is given after all single lines, with the count of lines
 -- as its number. A length not a multiple of 12 is a fault of the whole, looked at first, with that count rounded down."
-pub data Judged (g : Grammar) (row ns : List ℕ) : Checking → Type 0 where
-  valid : Valid g row ns → Judged g row ns Checking.Valid
-  uneven : (length ns % lineSize ≡ 0 → ⊥) → Judged g row ns (Checking.Fault (lineCount ns))
+pub data Judged (g : Grammar) (row ns : List ℕ) (answer : Checking) : Type 0 where
+  valid : Valid g row ns → answer ≡ Checking.Valid → Judged g row ns answer
+  uneven : (length ns % lineSize ≡ 0 → ⊥) → answer ≡ Checking.Fault (lineCount ns) → Judged g row ns answer
   line : (k : ℕ) → length ns % lineSize ≡ 0 → k < lineCount ns → ((i : ℕ) → i < k → LineRight g row ns i) → (LineRight g row ns k → ⊥)
-      → Judged g row ns (Checking.Fault k)
+      → answer ≡ Checking.Fault k → Judged g row ns answer
   whole : length ns % lineSize ≡ 0 → ((k : ℕ) → k < lineCount ns → LineRight g row ns k) → (WholeRight g row ns → ⊥)
-      → Judged g row ns (Checking.Fault (lineCount ns))
+      → answer ≡ Checking.Fault (lineCount ns) → Judged g row ns answer
 
 -- a number in decimal digits, in at most so many of them and one more
 unfoldable pub digits : ℕ → ℕ → List ℕ

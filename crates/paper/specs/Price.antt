@@ -2,7 +2,6 @@
 -- Assumes nothing.
 use mathlib.Core.Bool.{Bool, true, false, cond}
 use Prim.Native.Nat.{ℕ, _+_, _*_, _/_}
-
 use lib.Dec.{eqb}
 use lib.ListN.{length}
 use Rattle.paper.specs.Multiset.{subMultisets}
