@@ -1,1 +1,2 @@
 pub mod Multiset
+pub mod Rewriting
