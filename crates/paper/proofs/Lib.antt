@@ -1,2 +1,4 @@
 pub mod Multiset
 pub mod Rewriting
+pub mod Trees
+pub mod Seeking

@@ -42,9 +42,16 @@ module _ {g : Grammar} where
   pub yields-step : (before : List ℕ) {a : ℕ} (behind : List ℕ) {s : List ℕ} → Yields g a s → Step g (before ++ (a ∷ behind)) (before ++ (s ++ behind))
   yields-step before {a} behind {s} y = record { before = before; symbol = a; behind = behind; sequence = s; whole-is = refl; next-is = refl; yields = y }
 
+  pub derives-same : {s t : List ℕ} → s ≡ t → Derives g s t
+  derives-same e = rw e none
+
   pub derives-trans : {s t u : List ℕ} → Derives g s t → Derives g t u → Derives g s u
   derives-trans none e = e
   derives-trans (more x d) e = more x (derives-trans d e)
+
+  -- a symbol derives what its right side derives
+  pub derives-yields : {a : ℕ} {s t : List ℕ} → Yields g a s → Derives g s t → Derives g (a ∷ []) t
+  derives-yields {t = t} y d = more {u = t} (yields-step [] [] y) (rw append-nil d)
 
   step-between : (u : List ℕ) {s t : List ℕ} (v : List ℕ) → Step g s t → Step g (u ++ (s ++ v)) (u ++ (t ++ v))
   step-between u v x =
