@@ -1,6 +1,6 @@
 -- Laws of rewriting: derivations joined, set between other symbols, and split.
 -- Assumes nothing.
-use mathlib.Core.Path.{_≡_, refl, sym, _∙_, ap}
+use mathlib.Core.Path.{_≡_, refl, sym, _∙_}
 use mathlib.Core.Logic.{_⊎_, inl, inr}
 use mathlib.Core.List.{List, [], _∷_, _++_, append-assoc, append-nil}
 use Prim.Native.Nat.{ℕ}
@@ -8,12 +8,13 @@ use Rattle.paper.specs.Grammar.{Grammar}
 use Rattle.paper.specs.Derivation.{Step, Derives, Yields}
 use Rattle.paper.specs.Derivation.Derives.{none, more}
 
--- Where the symbol a stands in s ++ t, with `before` in front of it and `behind` after it: in s, or in t.
+-- The symbol a stands in s ++ t, with `before` in front of it and `behind` after it. It stands in s:
 pub record InFirst (s t before : List ℕ) (a : ℕ) (behind : List ℕ) : Type 0 where
   pub middle : List ℕ
   pub first-is : s ≡ before ++ (a ∷ middle)
   pub behind-is : behind ≡ middle ++ t
 
+-- or it stands in t:
 pub record InSecond (s t before : List ℕ) (a : ℕ) (behind : List ℕ) : Type 0 where
   pub middle : List ℕ
   pub second-is : t ≡ middle ++ (a ∷ behind)
@@ -24,6 +25,7 @@ first-further : (b c : ℕ) (s t before : List ℕ) (a : ℕ) (behind : List ℕ
 first-further b c s t before a behind e (inl p) = inl (record { middle = p .middle; first-is = cc; behind-is = p .behind-is })
 first-further b c s t before a behind e (inr p) = inr (record { middle = p .middle; second-is = p .second-is; before-is = cc })
 
+-- a symbol of two rows put together stands in the first or in the second
 pub seat : (s t before : List ℕ) (a : ℕ) (behind : List ℕ) → s ++ t ≡ before ++ (a ∷ behind) → InFirst s t before a behind ⊎ InSecond s t before a behind
 seat [] t before a behind e = inr (record { middle = before; second-is = e; before-is = refl })
 seat (b ∷ s) t [] a behind e = inl (record { middle = s; first-is = cc; behind-is = cc })
@@ -42,9 +44,11 @@ module _ {g : Grammar} where
   pub yields-step : (before : List ℕ) {a : ℕ} (behind : List ℕ) {s : List ℕ} → Yields g a s → Step g (before ++ (a ∷ behind)) (before ++ (s ++ behind))
   yields-step before {a} behind {s} y = record { before = before; symbol = a; behind = behind; sequence = s; whole-is = refl; next-is = refl; yields = y }
 
+  -- equal rows derive each other in no step
   pub derives-same : {s t : List ℕ} → s ≡ t → Derives g s t
   derives-same e = rw e none
 
+  -- one derivation after another
   pub derives-trans : {s t u : List ℕ} → Derives g s t → Derives g t u → Derives g s u
   derives-trans none e = e
   derives-trans (more x d) e = more x (derives-trans d e)
@@ -70,6 +74,7 @@ module _ {g : Grammar} where
       let right : Derives g (t ++ (u ++ [])) (t ++ (v ++ [])) = derives-between t [] e in
       derives-trans left (simp append-nil at right)
 
+  -- the first step of a derivation is taken in the one part, and the other part waits
   step-first : {s t u w m : List ℕ} (x : Step g w u) → InFirst s t (x .before) (x .symbol) (x .behind) → ((s t : List ℕ) → u ≡ s ++ t → Split g s t m) → Split g s t m
   step-first {s} {t} x p ih =
       let step : Step g s (x .before ++ (x .sequence ++ p .middle)) = rw (p .first-is) (yields-step (x .before) (p .middle) (x .yields)) in

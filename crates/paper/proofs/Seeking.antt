@@ -1,22 +1,19 @@
 -- A symbol is looked for at a place exactly if the start symbol derives a sequence with it in it, all before it deriving the tokens up to that place.
 -- Assumes nothing.
-use mathlib.Core.Path.{_≡_, refl, sym, _∙_, ap}
+use mathlib.Core.Path.{_≡_, refl, sym, _∙_}
 use mathlib.Core.Logic.{_⊎_, inl, inr}
 use mathlib.Core.List.{List, [], _∷_, _++_, append-assoc}
-use Prim.Native.Nat.{ℕ, zero, suc, _≤_, _<_}
+use Prim.Native.Nat.{ℕ, _≤_}
 use native.Mathlib.Omega.{arith}
 use lib.ListN.{length, take}
-use lib.Seq.{slice}
-use Rattle.paper.specs.Multiset.{Arrangement}
-use Rattle.paper.specs.Grammar.{Grammar, ruleCount, left, members}
-use Rattle.paper.specs.Derivation.{Acceptable, Yields, Step, Derives}
+use Rattle.paper.specs.Grammar.{Grammar, left}
+use Rattle.paper.specs.Derivation.{Yields, Step, Derives}
 use Rattle.paper.specs.Derivation.Derives.{none, more}
-use Rattle.paper.specs.Tree.{Tree, Parts, Sought}
-use Rattle.paper.specs.Tree.Tree.{node}
-use Rattle.paper.specs.Tree.Parts.{done, part}
+use Rattle.paper.specs.Tree.{Parts, Sought}
+use Rattle.paper.specs.Tree.Parts.{done}
 use Rattle.paper.specs.Tree.Sought.{top, below}
 use Rattle.paper.proofs.Rewriting.{InFirst, InSecond, seat, yields-step, derives-same, derives-trans, derives-append}
-use Rattle.paper.proofs.Trees.{slice-join, parts-span, parts-join, parts-split, step-parts, parts-derives, derives-parts}
+use Rattle.paper.proofs.Trees.{slice-join, parts-span, parts-split, step-parts, parts-derives, derives-parts}
 
 -- The symbol a stands in a sequence that the start symbol derives, with all before it deriving tokens 1 to i.
 pub record Awaited (g : Grammar) (row : List ℕ) (a i : ℕ) : Type 0 where
@@ -72,3 +69,27 @@ module _ {g : Grammar} {row : List ℕ} where
       let regrouped : x .before ++ (x .symbol ∷ x .behind) ≡ (x .before ++ (x .symbol ∷ q .middle)) ++ (a ∷ v) = rw (q .second-is) (simp append-assoc) in
       let step = yields-step (x .before) (q .middle) (x .yields) in
       f .looked-for (x .before ++ (x .symbol ∷ q .middle)) a v i (x .whole-is ∙ regrouped) (step-parts step (rw (q .before-is) at p))
+
+  looked-for-past : {w t m v : List ℕ} {a i : ℕ} (x : Step g w t) → Front g row w → InFirst (x .sequence) (x .behind) m a v ⊎ InSecond (x .sequence) (x .behind) m a v
+      → Parts g row (x .before ++ m) 0 i → Sought g row a i
+  looked-for-past x f (inl q) p = looked-for-within x f q p
+  looked-for-past x f (inr q) p = looked-for-behind x f q p
+
+  looked-for-after : {w t u v : List ℕ} {a i : ℕ} (x : Step g w t) → Front g row w
+      → InFirst (x .before) (x .sequence ++ x .behind) u a v ⊎ InSecond (x .before) (x .sequence ++ x .behind) u a v → Parts g row u 0 i → Sought g row a i
+  looked-for-after x f (inl q) p = looked-for-in-front x f q p
+  looked-for-after {v = v} {a = a} x f (inr q) p = looked-for-past x f (seat (x .sequence) (x .behind) (q .middle) a v (q .second-is)) (rw (q .before-is) at p)
+
+  step-front : {w t : List ℕ} → Step g w t → Front g row w → Front g row t
+  step-front x f =
+      record { looked-for = λ u a v i e p. looked-for-after x f (seat (x .before) (x .sequence ++ x .behind) u a v (sym (x .next-is) ∙ e)) p }
+
+  derives-front : {w t : List ℕ} → Derives g w t → Front g row w → Front g row t
+  derives-front none f = f
+  derives-front (more x d) f = derives-front d (step-front x f)
+
+  -- a symbol in a sequence that the start symbol derives, all before it deriving the tokens up to a place, is looked for at that place
+  pub derives-sought : (a i : ℕ) (before behind : List ℕ) → i ≤ length row → Derives g (g .start ∷ []) (before ++ (a ∷ behind)) → Derives g before (take i row)
+      → Sought g row a i
+  derives-sought a i before behind h d e =
+      derives-front d (record { looked-for = start-looked-for }) .looked-for before a behind i refl (derives-parts before 0 i (omega arith) h e)

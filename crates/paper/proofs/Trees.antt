@@ -1,14 +1,13 @@
 -- Trees over a row and rewriting agree: symbols derive the tokens between two places exactly if parts read them so.
 -- Assumes nothing.
 use mathlib.Core.Path.{_≡_, refl, sym, _∙_, ap}
-use mathlib.Core.List.{List, [], _∷_, _++_, append-nil}
+use mathlib.Core.List.{List, [], _∷_, _++_}
 use Prim.Native.Nat.{ℕ, zero, suc, _+_, _-_, _≤_, _<_}
 use native.Mathlib.Omega.{arith}
 use lib.ListN.{length, getD, take, drop, take-append-drop}
 use lib.Seq.{slice, slice-empty, slice-cons, length-take-le, drop-append-le, take-take}
-use Rattle.paper.specs.Multiset.{Arrangement}
-use Rattle.paper.specs.Grammar.{Grammar, ruleCount, left, members}
-use Rattle.paper.specs.Derivation.{Acceptable, Yields, Step, Derives}
+use Rattle.paper.specs.Grammar.{Grammar}
+use Rattle.paper.specs.Derivation.{Step, Derives}
 use Rattle.paper.specs.Derivation.Derives.{none, more}
 use Rattle.paper.specs.Tree.{Tree, Parts}
 use Rattle.paper.specs.Tree.Tree.{token, node}
@@ -27,12 +26,6 @@ slice-one row i h = slice-cons i (suc i) row 0 (omega arith) h ∙ ap (getD row 
 join-span : (i k j n : ℕ) → (i ≤ k) × (k ≤ n) → (k ≤ j) × (j ≤ n) → (i ≤ j) × (j ≤ n)
 join-span i k j n p q = (omega arith, q .1)
 
-token-span : (i n : ℕ) → i < n → (i ≤ suc i) × (suc i ≤ n)
-token-span i n h = (omega arith, omega arith)
-
-done-span : (i n : ℕ) → i ≤ n → (i ≤ i) × (i ≤ n)
-done-span i n h = (omega arith, h)
-
 part-derives : {g : Grammar} {a : ℕ} {s : List ℕ} (row : List ℕ) (i k j : ℕ) → (i ≤ k) × (k ≤ length row) → (k ≤ j) × (j ≤ length row)
     → Derives g (a ∷ []) (slice i k row) → Derives g s (slice k j row) → Derives g (a ∷ s) (slice i j row)
 part-derives row i k j p q d e = rw (slice-join row i k j (p .0) (q .0) (q .1)) at (derives-append d e)
@@ -41,16 +34,17 @@ module _ {g : Grammar} {row : List ℕ} where
   mutual
     -- a tree's places are in order and within the row
     pub tree-span : {a i j : ℕ} → Tree g row a i j → (i ≤ j) × (j ≤ length row)
-    tree-span (token {i = i} h e) = token-span i (length row) h
+    tree-span (token h e) = (omega arith, h)
     tree-span (node h l e a c p) = parts-span p
 
     -- and so are the places of parts
     pub parts-span : {s : List ℕ} {i j : ℕ} → Parts g row s i j → (i ≤ j) × (j ≤ length row)
-    parts-span (done {i = i} h) = done-span i (length row) h
+    parts-span (done h) = (omega arith, h)
     parts-span (part {i = i} {k = k} {j = j} t p) = join-span i k j (length row) (tree-span t) (parts-span p)
 
   -- ---- parts split and join
 
+  -- parts that read on where others end
   pub parts-join : {s t : List ℕ} {i k j : ℕ} → Parts g row s i k → Parts g row t k j → Parts g row (s ++ t) i j
   parts-join (done h) q = q
   parts-join (part x p) q = part x (parts-join p q)
@@ -62,20 +56,24 @@ module _ {g : Grammar} {row : List ℕ} where
   split-here : {t : List ℕ} {i j : ℕ} → Parts g row t i j → (k : ℕ) × Parts g row [] i k × Parts g row t k j
   split-here {i = i} p = let z = parts-span p in (i, done {i = i} (omega arith), p)
 
+  -- the parts of two rows of symbols meet at some place
   pub parts-split : (s : List ℕ) {t : List ℕ} {i j : ℕ} → Parts g row (s ++ t) i j → (k : ℕ) × Parts g row s i k × Parts g row t k j
   parts-split [] p = split-here p
   parts-split (a ∷ s) (part x p) = split-further x (parts-split s p)
 
-  -- one symbol alone
+  -- one symbol alone is read by its tree
   pub tree-parts : {a i j : ℕ} → Tree g row a i j → Parts g row (a ∷ []) i j
   tree-parts x = part x (done (tree-span x .1))
 
   pub parts-tree : {a i j : ℕ} → Parts g row (a ∷ []) i j → Tree g row a i j
   parts-tree (part x (done h)) = x
 
-  -- one symbol more
+  -- one symbol more, read after the others
   pub parts-snoc : {s : List ℕ} {a i k j : ℕ} → Parts g row s i k → Tree g row a k j → Parts g row (s ++ (a ∷ [])) i j
   parts-snoc p x = parts-join p (tree-parts x)
+
+  pub parts-unsnoc : (s : List ℕ) {a i j : ℕ} → Parts g row (s ++ (a ∷ [])) i j → (k : ℕ) × Parts g row s i k × Tree g row a k j
+  parts-unsnoc s p = let z = parts-split s p in (z .0, z .1, parts-tree (z .2))
 
   -- ---- what is read so is derived
 
@@ -122,3 +120,7 @@ module _ {g : Grammar} {row : List ℕ} where
   -- symbols that derive the tokens between two places have parts that read them
   pub derives-parts : (s : List ℕ) (i j : ℕ) → i ≤ j → j ≤ length row → Derives g s (slice i j row) → Parts g row s i j
   derives-parts s i j h l d = parts-back d (tokens-parts i j h l)
+
+  -- and one symbol that derives them has a tree
+  pub derives-tree : (a i j : ℕ) → i ≤ j → j ≤ length row → Derives g (a ∷ []) (slice i j row) → Tree g row a i j
+  derives-tree a i j h l d = parts-tree (derives-parts (a ∷ []) i j h l d)
