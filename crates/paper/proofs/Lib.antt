@@ -2,3 +2,4 @@ pub mod Multiset
 pub mod Rewriting
 pub mod Trees
 pub mod Seeking
+pub mod Machine
