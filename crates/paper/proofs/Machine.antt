@@ -7,7 +7,7 @@ use Prim.Native.Nat.{ℕ, zero, suc, _+_, _≤_, _<_}
 use native.Mathlib.Omega.{arith}
 use lib.Dec.{eqb}
 use lib.ListN.{length, getD, length-append, List·getD-append}
-use borrow.Author.Tests.{eqb-true, eq-eqb}
+use borrow.Author.Tests.{eqb-true, eq-eqb, not-true}
 use Rattle.paper.specs.Multiset.{count, Arrangement, has, without, minus}
 use Rattle.paper.specs.Grammar.{Grammar, StrictPartialOrder}
 use Rattle.paper.specs.Derivation.{Acceptable}
@@ -37,10 +37,6 @@ and-right false y h = let z : _≡_ {A = ℕ} 0 1 = cc in absurd (let k : ⊥ = 
 
 both : (x y : Bool) → x ≡ true → y ≡ true → (x && y) ≡ true
 both x y e f = rw (e, f)
-
-not-false-is : (x : Bool) → not x ≡ true → x ≡ false
-not-false-is true h = sym h
-not-false-is false h = refl
 
 unlike : {x : Bool} → x ≡ true → x ≡ false → ⊥
 unlike h k = let z : _≡_ {A = ℕ} 0 1 = cc in omega arith
@@ -189,3 +185,79 @@ one-more o a s (t, k, h) = let r = inserted o a t h in (r .sequence, arranged-tr
 pub arranged-acceptable : {g : Grammar} → StrictPartialOrder (g .precedes) → (s : List ℕ) → (t : List ℕ) × Arrangement t s × Acceptable g t
 arranged-acceptable {g} o [] = ([], arranged-refl [], acceptable-nil g)
 arranged-acceptable {g} o (a ∷ s) = one-more o a s (arranged-acceptable o s)
+
+-- ## Taking one
+
+pub taken-has : (g : Grammar) (a : ℕ) (s : List ℕ) → mayTake g a s ≡ true → has a s ≡ true
+unfolding mayTake
+taken-has g a s h = and-left (has a s) (not (barred g a s)) h
+
+pub taken-unbarred : (g : Grammar) (a : ℕ) (s : List ℕ) → mayTake g a s ≡ true → barred g a s ≡ false
+unfolding mayTake
+taken-unbarred g a s h = not-true (barred g a s) (and-right (has a s) (not (barred g a s)) h)
+
+pub may-take : (g : Grammar) (a : ℕ) (s : List ℕ) → has a s ≡ true → barred g a s ≡ false → mayTake g a s ≡ true
+unfolding mayTake
+may-take g a s m f = rw (m, f)
+
+-- the head of an acceptable arrangement of the rest may be taken
+pub head-taken : {g : Grammar} → StrictPartialOrder (g .precedes) → {a : ℕ} {t s : List ℕ} → Arrangement (a ∷ t) s → Acceptable g (a ∷ t) → mayTake g a s ≡ true
+head-taken {g} o {a} {t} {s} k h =
+    may-take g a s (has-arranged a k (has-head a t)) (unbarred-arranged g a (arranged-sym k) (unbarred-cons g a a t (o .irreflexive a) (acceptable-head h)))
+
+-- what follows the head is an arrangement of what is left
+pub arranged-left : {a : ℕ} {t s : List ℕ} → Arrangement (a ∷ t) s → Arrangement t (without a s)
+arranged-left {a} {t} {s} k =
+    arranged-uncons a t (without a s) (arranged-trans k (arranged-sym (arranged-without a s (has-arranged a k (has-head a t)))))
+
+-- a symbol that may be taken stands well before every arrangement of what is left
+pub taken-arranged : (g : Grammar) (a : ℕ) (s : List ℕ) {t : List ℕ} → mayTake g a s ≡ true → Arrangement t (without a s) → Arrangement (a ∷ t) s
+taken-arranged g a s m k = arranged-trans (arranged-cons a k) (arranged-without a s (taken-has g a s m))
+
+pub taken-acceptable : (g : Grammar) (a : ℕ) (s : List ℕ) {t : List ℕ} → mayTake g a s ≡ true → Arrangement t (without a s) → Acceptable g t → Acceptable g (a ∷ t)
+taken-acceptable g a s {t} m k h =
+    acceptable-cons (unbarred-tail g a a t (unbarred-arranged g a (taken-arranged g a s m k) (taken-unbarred g a s m))) h
+
+-- ## Taking in turn
+
+-- may the symbols be taken from the rest one after the other?
+unfoldable pub mayTakeAll : Grammar → List ℕ → List ℕ → Bool
+mayTakeAll g [] rest = true
+mayTakeAll g (a ∷ s) rest = mayTake g a rest && mayTakeAll g s (without a rest)
+
+pub all-taken-head : (g : Grammar) (a : ℕ) (s rest : List ℕ) → mayTakeAll g (a ∷ s) rest ≡ true → mayTake g a rest ≡ true
+unfolding mayTakeAll
+all-taken-head g a s rest = and-left (mayTake g a rest) (mayTakeAll g s (without a rest))
+
+pub all-taken-tail : (g : Grammar) (a : ℕ) (s rest : List ℕ) → mayTakeAll g (a ∷ s) rest ≡ true → mayTakeAll g s (without a rest) ≡ true
+unfolding mayTakeAll
+all-taken-tail g a s rest = and-right (mayTake g a rest) (mayTakeAll g s (without a rest))
+
+-- the front of an acceptable arrangement of the rest may be taken in turn
+pub front-taken : {g : Grammar} → StrictPartialOrder (g .precedes) → (s t : List ℕ) {rest : List ℕ} → Arrangement (s ++ t) rest → Acceptable g (s ++ t) → mayTakeAll g s rest ≡ true
+unfolding mayTakeAll
+front-taken o [] t k h = refl
+front-taken {g} o (a ∷ s) t {rest} k h =
+    both (mayTake g a rest) (mayTakeAll g s (without a rest)) (head-taken o k h) (front-taken o s t (arranged-left k) (acceptable-tail h))
+
+-- what follows the front is an arrangement of what is then left
+pub arranged-minus : (s t : List ℕ) {rest : List ℕ} → Arrangement (s ++ t) rest → Arrangement t (minus rest s)
+unfolding minus
+arranged-minus [] t k = k
+arranged-minus (a ∷ s) t k = arranged-minus s t (arranged-left k)
+
+-- what may be taken in turn and what is left are together an arrangement of the rest
+pub all-taken-arranged : (g : Grammar) (s rest : List ℕ) {t : List ℕ} → mayTakeAll g s rest ≡ true → Arrangement t (minus rest s) → Arrangement (s ++ t) rest
+unfolding minus
+all-taken-arranged g [] rest m k = k
+all-taken-arranged g (a ∷ s) rest m k =
+    taken-arranged g a rest (all-taken-head g a s rest m) (all-taken-arranged g s (without a rest) (all-taken-tail g a s rest m) k)
+
+-- what may be taken in turn, followed by an acceptable arrangement of what is left, is acceptable
+pub all-taken-acceptable : (g : Grammar) (s rest : List ℕ) {t : List ℕ} → mayTakeAll g s rest ≡ true → Arrangement t (minus rest s) → Acceptable g t → Acceptable g (s ++ t)
+unfolding minus
+all-taken-acceptable g [] rest m k h = h
+all-taken-acceptable g (a ∷ s) rest m k h =
+    taken-acceptable g a rest (all-taken-head g a s rest m)
+        (all-taken-arranged g s (without a rest) (all-taken-tail g a s rest m) k)
+        (all-taken-acceptable g s (without a rest) (all-taken-tail g a s rest m) k h)
