@@ -3,3 +3,4 @@ pub mod Rewriting
 pub mod Trees
 pub mod Seeking
 pub mod Machine
+pub mod Theorem7
