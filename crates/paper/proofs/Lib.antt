@@ -4,3 +4,4 @@ pub mod Trees
 pub mod Seeking
 pub mod Machine
 pub mod Theorem7
+pub mod Standing

@@ -1,18 +1,19 @@
 -- The laws of taking: what the rest of a rule lets be taken, and that what is taken in turn is acceptable. They are all that others need of the order.
 -- Assumes nothing.
-use mathlib.Core.Path.{_≡_, refl, sym, _∙_, ap}
+use mathlib.Core.Path.{_≡_, refl}
 use mathlib.Core.Bool.{Bool, true, false, not, _&&_, _||_}
-use mathlib.Core.List.{List, [], _∷_, _++_, append-nil}
-use Prim.Native.Nat.{ℕ, zero, suc, _+_, _≤_, _<_}
+use mathlib.Core.Logic.{_↔_}
+use mathlib.Core.List.{List, [], _∷_, _++_}
+use Prim.Native.Nat.{ℕ, zero, suc, _<_}
 use native.Mathlib.Omega.{arith}
 use lib.Dec.{eqb}
 use lib.ListN.{length, getD, length-append, List·getD-append}
 use borrow.Author.Tests.{eqb-true, eq-eqb, not-true}
-use Rattle.paper.specs.Multiset.{count, Arrangement, has, without, minus}
+use Rattle.paper.specs.Multiset.{Arrangement, has, without, minus}
 use Rattle.paper.specs.Grammar.{Grammar, StrictPartialOrder}
 use Rattle.paper.specs.Derivation.{Acceptable}
 use Rattle.paper.specs.Entry.{barred, mayTake}
-use Rattle.paper.proofs.Multiset.{has-count, count-has, count-self, arranged-refl, arranged-sym, arranged-trans, arranged-cons, arranged-uncons, arranged-without, arranged-nil, arranged-append, arranged-swap}
+use Rattle.paper.proofs.Multiset.{has-count, count-has, arranged-refl, arranged-sym, arranged-trans, arranged-cons, arranged-uncons, arranged-without, arranged-append, arranged-swap}
 
 -- ## Tests
 
@@ -148,7 +149,7 @@ record Inserted (g : Grammar) (b : ℕ) (t : List ℕ) : Type 0 where
   arranged : Arrangement sequence (b ∷ t)
   acceptable : Acceptable g sequence
 
--- b in front, if it must precede the head of t: then nothing of t must precede b, or it must precede the head too
+-- b in front, if it must precede the head: what must precede b must by transitivity precede the head too, and nothing behind the head does
 inserted-front : {g : Grammar} → StrictPartialOrder (g .precedes) → (b c : ℕ) (t : List ℕ) → Acceptable g (c ∷ t) → g .precedes b c ≡ true → Inserted g b (c ∷ t)
 inserted-front {g} o b c t h e =
     record { sequence = b ∷ (c ∷ t)
@@ -163,6 +164,7 @@ inserted-front {g} o b c t h e =
     free : (d : ℕ) → has d (c ∷ t) ≡ true → g .precedes d b ≡ false
     free d m = decide d (g .precedes d b) refl (unbarred-each g c d (c ∷ t) head-free m)
 
+-- b somewhere behind the head, if it need not precede it
 inserted-behind : {g : Grammar} → (b c : ℕ) (t : List ℕ) → Acceptable g (c ∷ t) → g .precedes b c ≡ false → Inserted g b t → Inserted g b (c ∷ t)
 inserted-behind {g} b c t h e r =
     record { sequence = c ∷ r .sequence
@@ -178,7 +180,8 @@ inserted {g} o b (c ∷ t) h = go (g .precedes b c) refl (inserted o b t (accept
     go true e r = inserted-front o b c t h e
     go false e r = inserted-behind b c t h e r
 
-one-more : {g : Grammar} → StrictPartialOrder (g .precedes) → (a : ℕ) (s : List ℕ) → (t : List ℕ) × Arrangement t s × Acceptable g t → (t : List ℕ) × Arrangement t (a ∷ s) × Acceptable g t
+one-more : {g : Grammar} → StrictPartialOrder (g .precedes) → (a : ℕ) (s : List ℕ) → (t : List ℕ) × Arrangement t s × Acceptable g t
+    → (t : List ℕ) × Arrangement t (a ∷ s) × Acceptable g t
 one-more o a s (t, k, h) = let r = inserted o a t h in (r .sequence, arranged-trans (r .arranged) (arranged-cons a k), r .acceptable)
 
 -- an acceptable arrangement of a multiset: there is one because the order is a strict partial order
@@ -210,10 +213,11 @@ pub arranged-left : {a : ℕ} {t s : List ℕ} → Arrangement (a ∷ t) s → A
 arranged-left {a} {t} {s} k =
     arranged-uncons a t (without a s) (arranged-trans k (arranged-sym (arranged-without a s (has-arranged a k (has-head a t)))))
 
--- a symbol that may be taken stands well before every arrangement of what is left
+-- a symbol that may be taken, before an arrangement of what is left, makes an arrangement of the rest
 pub taken-arranged : (g : Grammar) (a : ℕ) (s : List ℕ) {t : List ℕ} → mayTake g a s ≡ true → Arrangement t (without a s) → Arrangement (a ∷ t) s
 taken-arranged g a s m k = arranged-trans (arranged-cons a k) (arranged-without a s (taken-has g a s m))
 
+-- and an acceptable one, if that of what is left is acceptable
 pub taken-acceptable : (g : Grammar) (a : ℕ) (s : List ℕ) {t : List ℕ} → mayTake g a s ≡ true → Arrangement t (without a s) → Acceptable g t → Acceptable g (a ∷ t)
 taken-acceptable g a s {t} m k h =
     acceptable-cons (unbarred-tail g a a t (unbarred-arranged g a (taken-arranged g a s m k) (taken-unbarred g a s m))) h
@@ -261,3 +265,11 @@ all-taken-acceptable g (a ∷ s) rest m k h =
     taken-acceptable g a rest (all-taken-head g a s rest m)
         (all-taken-arranged g s (without a rest) (all-taken-tail g a s rest m) k)
         (all-taken-acceptable g s (without a rest) (all-taken-tail g a s rest m) k h)
+
+-- symbols may be taken in turn exactly if, followed by some arrangement of what is left, they are acceptable
+pub taken-in-turn : {g : Grammar} → StrictPartialOrder (g .precedes) → (s rest : List ℕ)
+    → mayTakeAll g s rest ≡ true ↔ ((t : List ℕ) × Arrangement (s ++ t) rest × Acceptable g (s ++ t))
+taken-in-turn {g} o s rest = (λ m. ahead m, λ (t, k, h). front-taken o s t k h)
+  where
+    ahead : mayTakeAll g s rest ≡ true → (t : List ℕ) × Arrangement (s ++ t) rest × Acceptable g (s ++ t)
+    ahead m = let (t, k, h) = arranged-acceptable o (minus rest s) in (t, all-taken-arranged g s rest m k, all-taken-acceptable g s rest m k h)

@@ -1,20 +1,19 @@
 -- 000, theorem 7, over trees: the steps find an entry exactly if it stands.
 -- Assumes nothing.
 use mathlib.Core.Path.{_≡_, refl, sym, _∙_, ap, subst}
-use mathlib.Core.Bool.{Bool, true, false}
+use mathlib.Core.Bool.{true}
 use mathlib.Core.Logic.{_↔_}
 use mathlib.Core.List.{List, [], _∷_, _++_, append-nil, append-assoc}
-use Prim.Native.Nat.{ℕ, zero, suc, _+_, _≤_, _<_}
+use Prim.Native.Nat.{ℕ, suc, _≤_, _<_}
 use native.Mathlib.Omega.{arith}
-use lib.Dec.{eqb}
 use lib.ListN.{length, getD}
 use borrow.Author.Tests.{eqb-true, eq-eqb}
-use Rattle.paper.specs.Multiset.{Arrangement, has, without, minus}
+use Rattle.paper.specs.Multiset.{Arrangement, without, minus}
 use Rattle.paper.specs.Grammar.{Grammar, ruleCount, left, members, StrictPartialOrder, IsGrammar, IsRow}
 use Rattle.paper.specs.Derivation.{Acceptable}
 use Rattle.paper.specs.Tree.{Tree, token, node, Parts, done, part, Sought, top, below}
 use Rattle.paper.specs.Entry.{Entry, mayTake, fresh, taking, finished, Found, start, scan, predict, complete}
-use Rattle.paper.proofs.Multiset.{minus-snoc, arranged-refl, arranged-sym, arranged-trans, arranged-append, arranged-nil, arranged-length}
+use Rattle.paper.proofs.Multiset.{minus-snoc, arranged-refl, arranged-sym, arranged-trans, arranged-append, arranged-cons, arranged-nil}
 use Rattle.paper.proofs.Machine.{acceptable-front, acceptable-back, acceptable-exchange, arranged-acceptable, head-taken, taken-arranged, taken-acceptable, mayTakeAll, all-taken-head, all-taken-tail, front-taken, arranged-minus}
 
 -- an entry stands on list j, with a tree for each found member and for what its left symbol is looked for in
@@ -77,7 +76,7 @@ takes {g} {e = e} o a s m =
            ; arranged = arranged-trans (arranged-append (arranged-refl (s .found)) r) (s .found-are)
            ; acceptable = acceptable-exchange (s .found) (s .ahead) (s .acceptable) (arranged-trans r (arranged-sym (s .ahead-is))) (taken-acceptable g a (e .rest) m k f) }
 
--- an entry from which a may be taken, and a tree of a from its list on
+-- an entry from which a may be taken, with a tree of a from its list on: with a found too it stands where the tree ends
 taking-stands : {g : Grammar} {row : List ℕ} {k j a : ℕ} {e : Entry} → StrictPartialOrder (g .precedes) → StandsByTrees g row k e
     → mayTake g a (e .rest) ≡ true → Tree g row a k j → k ≤ j → j ≤ length row → StandsByTrees g row j (taking a e)
 taking-stands {g} {a = a} {e = e} o s m t p q =
@@ -85,13 +84,14 @@ taking-stands {g} {a = a} {e = e} o s m t p q =
     record { is-rule = s .is-rule; origin-le = omega arith; list-le = q
            ; found = s .found ++ (a ∷ []); ahead = r .ahead
            ; rest-is = ap (without a) (s .rest-is) ∙ sym (minus-snoc (members g (e .rule)) (s .found) a)
-           ; found-are = rw (append-assoc (s .found) (a ∷ []) (without a (e .rest))) (arranged-trans (arranged-append (arranged-refl (s .found)) (arranged-append (arranged-refl (a ∷ [])) (arranged-sym (r .ahead-is)))) (r .arranged))
+           ; found-are = rw (append-assoc (s .found) (a ∷ []) (without a (e .rest)))
+                 (arranged-trans (arranged-append (arranged-refl (s .found)) (arranged-cons a (arranged-sym (r .ahead-is)))) (r .arranged))
            ; ahead-is = r .ahead-is
            ; acceptable = rw (append-assoc (s .found) (a ∷ []) (r .ahead)) (r .acceptable)
            ; parts = parts-snoc (s .parts) t q
            ; sought = s .sought }
 
--- the left symbol of an entry that may be taken is looked for
+-- a symbol that may be taken from an entry is looked for where the entry stands
 sought-below : {g : Grammar} {row : List ℕ} {j a : ℕ} {e : Entry} → StrictPartialOrder (g .precedes) → StandsByTrees g row j e
     → mayTake g a (e .rest) ≡ true → Sought g row a j
 sought-below {a = a} {e = e} o s m =
@@ -104,6 +104,7 @@ finished-tree {g} {e = e} s z =
     let k : Arrangement (s .found ++ []) (members g (e .rule)) = rw z at (s .found-are) in
     node (e .rule) (s .is-rule) refl (rw (append-nil (s .found)) at k) (acceptable-front (s .found) (s .ahead) (s .acceptable)) (s .parts)
 
+-- Each kind of step leads from entries that stand to an entry that stands.
 started : {g : Grammar} {row : List ℕ} → StrictPartialOrder (g .precedes) → (h : ℕ) → h < ruleCount g → left g h ≡ g .start → StandsByTrees g row 0 (fresh g h 0)
 started {g} {row} o h p q = let s : Sought g row (left g h) 0 = rw q top in fresh-stands o h p (omega arith) s
 
@@ -178,12 +179,13 @@ mutual
   parts-found {g} (part {a = a} {s = s} t ps) o e f m =
       all-cons a s e (parts-found ps o (taking a e) (tree-found t o e f (all-taken-head g a s (e .rest) m)) (all-taken-tail g a s (e .rest) m))
 
--- A symbol that is looked for is predicted: each of its rules is found there, with nothing taken.
+-- a rule found with nothing taken, and the front of an acceptable arrangement of its members read: what comes next is predicted
 sought-predicts : {g : Grammar} {row : List ℕ} {a k : ℕ} → StrictPartialOrder (g .precedes) → (n : ℕ) {i : ℕ} (s t : List ℕ) → Arrangement (s ++ (a ∷ t)) (members g n)
     → Acceptable g (s ++ (a ∷ t)) → Parts g row s i k → Found g row i (fresh g n i) → (h : ℕ) → h < ruleCount g → left g h ≡ a → Found g row k (fresh g h k)
 sought-predicts {g} {a = a} o n {i} s t r c ps f h p q =
     predict h (parts-found ps o (fresh g n i) f (front-taken o s (a ∷ t) r c)) p (rw q (head-taken o (arranged-minus s (a ∷ t) r) (acceptable-back s (a ∷ t) c)))
 
+-- a symbol that is looked for is predicted: each of its rules is found there, with nothing taken
 pub sought-found : {g : Grammar} {row : List ℕ} {a i : ℕ} → StrictPartialOrder (g .precedes) → Sought g row a i → (h : ℕ) → h < ruleCount g → left g h ≡ a
     → Found g row i (fresh g h i)
 sought-found o top h p q = start h p q
