@@ -14,6 +14,7 @@ use Rattle.paper.specs.Derivation.{Acceptable}
 use Rattle.paper.specs.Tree.{Tree, token, node, Parts, done, part, Sought, top, below}
 use Rattle.paper.specs.Entry.{Entry, mayTake, fresh, taking, finished, Found, start, scan, predict, complete}
 use Rattle.paper.proofs.Multiset.{minus-snoc, arranged-refl, arranged-sym, arranged-trans, arranged-append, arranged-cons, arranged-nil}
+use Rattle.paper.proofs.Trees.{parts-snoc}
 use Rattle.paper.proofs.Machine.{acceptable-front, acceptable-back, acceptable-exchange, arranged-acceptable, head-taken, taken-arranged, taken-acceptable, mayTakeAll, all-taken-head, all-taken-tail, front-taken, arranged-minus}
 
 -- an entry stands on list j, with a tree for each found member and for what its left symbol is looked for in
@@ -45,10 +46,6 @@ unfolding finished
 rest-finished e h = eq-eqb (length (e .rest)) 0 (ap length h)
 
 -- ## What the steps find stands
-
-pub parts-snoc : {g : Grammar} {row s : List ℕ} {a i k j : ℕ} → Parts g row s i k → Tree g row a k j → j ≤ length row → Parts g row (s ++ (a ∷ [])) i j
-parts-snoc (done p) t h = part t (done h)
-parts-snoc (part u p) t h = part u (parts-snoc p t h)
 
 -- the entry with nothing found stands where its left symbol is looked for
 fresh-stands : {g : Grammar} {row : List ℕ} {j : ℕ} → StrictPartialOrder (g .precedes) → (h : ℕ) → h < ruleCount g → j ≤ length row
@@ -88,7 +85,7 @@ taking-stands {g} {a = a} {e = e} o s m t p q =
                  (arranged-trans (arranged-append (arranged-refl (s .found)) (arranged-cons a (arranged-sym (r .ahead-is)))) (r .arranged))
            ; ahead-is = r .ahead-is
            ; acceptable = rw (append-assoc (s .found) (a ∷ []) (r .ahead)) (r .acceptable)
-           ; parts = parts-snoc (s .parts) t q
+           ; parts = parts-snoc (s .parts) t
            ; sought = s .sought }
 
 -- a symbol that may be taken from an entry is looked for where the entry stands
@@ -99,7 +96,7 @@ sought-below {a = a} {e = e} o s m =
     below (e .rule) (s .found) (r .ahead) (s .is-rule) (s .sought) (r .arranged) (r .acceptable) (s .parts)
 
 -- a finished entry is a tree
-finished-tree : {g : Grammar} {row : List ℕ} {j : ℕ} {e : Entry} → StandsByTrees g row j e → e .rest ≡ [] → Tree g row (left g (e .rule)) (e .origin) j
+pub finished-tree : {g : Grammar} {row : List ℕ} {j : ℕ} {e : Entry} → StandsByTrees g row j e → e .rest ≡ [] → Tree g row (left g (e .rule)) (e .origin) j
 finished-tree {g} {e = e} s z =
     let k : Arrangement (s .found ++ []) (members g (e .rule)) = rw z at (s .found-are) in
     node (e .rule) (s .is-rule) refl (rw (append-nil (s .found)) at k) (acceptable-front (s .found) (s .ahead) (s .acceptable)) (s .parts)
@@ -120,15 +117,12 @@ completed : {g : Grammar} {row : List ℕ} {j : ℕ} {e f : Entry} → StrictPar
     → finished f ≡ true → mayTake g (left g (f .rule)) (e .rest) ≡ true → StandsByTrees g row j (taking (left g (f .rule)) e)
 completed {f = f} o s t z m = taking-stands o s m (finished-tree t (finished-rest f z)) (t .origin-le) (t .list-le)
 
-steps-stand : {g : Grammar} {row : List ℕ} {j : ℕ} {e : Entry} → StrictPartialOrder (g .precedes) → Found g row j e → StandsByTrees g row j e
-steps-stand o (start h p q) = started o h p q
-steps-stand o (scan f p m) = scanned o (steps-stand o f) p m
-steps-stand o (predict h f p m) = predicted o h (steps-stand o f) p m
-steps-stand o (complete f k z m) = completed o (steps-stand o f) (steps-stand o k) z m
-
 -- 000, theorem 7, "only if": what the steps find stands
-pub found-stands : {g : Grammar} {row : List ℕ} {j : ℕ} {e : Entry} → IsGrammar g → IsRow g row → Found g row j e → StandsByTrees g row j e
-found-stands grammar is-row f = steps-stand (grammar .order) f
+pub found-stands : {g : Grammar} {row : List ℕ} {j : ℕ} {e : Entry} → StrictPartialOrder (g .precedes) → Found g row j e → StandsByTrees g row j e
+found-stands o (start h p q) = started o h p q
+found-stands o (scan f p m) = scanned o (found-stands o f) p m
+found-stands o (predict h f p m) = predicted o h (found-stands o f) p m
+found-stands o (complete f k z m) = completed o (found-stands o f) (found-stands o k) z m
 
 -- ## What stands, the steps find
 
@@ -196,12 +190,8 @@ same-rest : {g : Grammar} {row : List ℕ} {j : ℕ} (e : Entry) {s : List ℕ} 
 same-rest {g} {row} {j} e z f = subst (λ (s : List ℕ). Found g row j (record { rule = e .rule; origin = e .origin; rest = s })) (sym z) f
 
 -- 000, theorem 7, "if": what stands, the steps find
-pub stands-found : {g : Grammar} {row : List ℕ} {j : ℕ} {e : Entry} → IsGrammar g → IsRow g row → StandsByTrees g row j e → Found g row j e
-stands-found {g} {row} {j} {e} grammar is-row s =
+pub stands-found : {g : Grammar} {row : List ℕ} {j : ℕ} {e : Entry} → StrictPartialOrder (g .precedes) → StandsByTrees g row j e → Found g row j e
+stands-found {g} {row} {j} {e} o s =
     let r : Arrangement (s .found ++ s .ahead) (members g (e .rule)) = arranged-trans (arranged-append (arranged-refl (s .found)) (s .ahead-is)) (s .found-are) in
-    let f : Found g row (e .origin) (fresh g (e .rule) (e .origin)) = sought-found (grammar .order) (s .sought) (e .rule) (s .is-rule) refl in
-    same-rest e (s .rest-is) (parts-found (s .parts) (grammar .order) (fresh g (e .rule) (e .origin)) f (front-taken (grammar .order) (s .found) (s .ahead) r (s .acceptable)))
-
--- 000, theorem 7
-pub theorem-7 : {g : Grammar} {row : List ℕ} {j : ℕ} {e : Entry} → IsGrammar g → IsRow g row → Found g row j e ↔ StandsByTrees g row j e
-theorem-7 grammar is-row = (found-stands grammar is-row, stands-found grammar is-row)
+    let f : Found g row (e .origin) (fresh g (e .rule) (e .origin)) = sought-found o (s .sought) (e .rule) (s .is-rule) refl in
+    same-rest e (s .rest-is) (parts-found (s .parts) o (fresh g (e .rule) (e .origin)) f (front-taken o (s .found) (s .ahead) r (s .acceptable)))
