@@ -1,4 +1,5 @@
 pub mod Multiset
+pub mod Bits
 pub mod Grammar
 pub mod Derivation
 pub mod Tree
