@@ -5,3 +5,5 @@ pub mod Seeking
 pub mod Machine
 pub mod Theorem7
 pub mod Standing
+pub mod Lists
+pub mod Closure

@@ -9,3 +9,4 @@ pub mod Price
 pub mod Image
 pub mod Lines
 pub mod Outcome
+pub mod Building
