@@ -7,3 +7,4 @@ pub mod Theorem7
 pub mod Standing
 pub mod Lists
 pub mod Closure
+pub mod SubMultisets
