@@ -8,3 +8,4 @@ pub mod Standing
 pub mod Lists
 pub mod Closure
 pub mod SubMultisets
+pub mod Words

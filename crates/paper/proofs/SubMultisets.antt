@@ -23,20 +23,20 @@ Listed r s = List·Memᴰ r (subMultisets s)
 abbrev full : ℕ → List ℕ → List (List ℕ)
 full a s = keep (λ r. eqb (count a r) (count a s)) (subMultisets s)
 
-listed-missing : {r : List ℕ} (a : ℕ) (s : List ℕ) → Listed r s → Listed r (a ∷ s)
+pub listed-missing : {r : List ℕ} (a : ℕ) (s : List ℕ) → Listed r s → Listed r (a ∷ s)
 unfolding subMultisets
 listed-missing a s m = Memᴰ·append-left (map (a ∷_) (full a s)) m
 
-listed-present : {r : List ℕ} (a : ℕ) (s : List ℕ) → Listed r s → count a r ≡ count a s → Listed (a ∷ r) (a ∷ s)
+pub listed-present : {r : List ℕ} (a : ℕ) (s : List ℕ) → Listed r s → count a r ≡ count a s → Listed (a ∷ r) (a ∷ s)
 unfolding subMultisets
 listed-present {r} a s m e = Memᴰ·append-right (subMultisets s) (Memᴰ·map (a ∷_) (mem-keep (λ q. eqb (count a q) (count a s)) (subMultisets s) m (eq-eqb (count a r) (count a s) e)))
 
 -- r has this a in front of q, and with it every later one
-record Present (a : ℕ) (s : List ℕ) (r : List ℕ) : Type 0 where
-  q : List ℕ
-  listed : Listed q s
-  every : count a q ≡ count a s
-  r-is : r ≡ a ∷ q
+pub record Present (a : ℕ) (s : List ℕ) (r : List ℕ) : Type 0 where
+  pub q : List ℕ
+  pub listed : Listed q s
+  pub every : count a q ≡ count a s
+  pub r-is : r ≡ a ∷ q
 
 present-mem : {r : List ℕ} (a : ℕ) (s : List ℕ) → List·Memᴰ r (map (a ∷_) (full a s)) → Present a s r
 present-mem a s m =
@@ -45,7 +45,7 @@ present-mem a s m =
     record { q = x .0; listed = k .0; every = eqb-true (count a (x .0)) (count a s) (k .1); r-is = x .2 }
 
 -- how r is listed: its first member is missing, or it is there with every later one equal to it
-listed-cases : {r : List ℕ} (a : ℕ) (s : List ℕ) → Listed r (a ∷ s) → Listed r s ⊎ Present a s r
+pub listed-cases : {r : List ℕ} (a : ℕ) (s : List ℕ) → Listed r (a ∷ s) → Listed r s ⊎ Present a s r
 unfolding subMultisets
 listed-cases {r} a s m = go (List·Memᴰ·append-cases (subMultisets s) m)
   where

@@ -1,10 +1,10 @@
 -- The work sheet: document 01, "The work sheet".
 -- Assumes nothing.
 use mathlib.Core.Path.{_≡_}
-use mathlib.Core.Bool.{Bool, true, false, _&&_}
+use mathlib.Core.Bool.{Bool, true, false, _&&_, cond}
 use mathlib.Core.Logic.{_↔_}
 use mathlib.Core.List.{List, [], _∷_, _++_, List·Memᴰ, map}
-use Prim.Native.Nat.{ℕ, zero, suc, _+_, _*_, _≤_, _<_}
+use Prim.Native.Nat.{ℕ, zero, suc, _+_, _*_, _/_, _%_, _≤_, _<_}
 use lib.Dec.{eqb, leb}
 use lib.ListN.{length, getD}
 use Rattle.paper.specs.Multiset.{bit, count, keep, StrictlyAscending}
@@ -20,6 +20,15 @@ mask (a ∷ members) rest = bit (leb (count a (a ∷ members)) (count a rest)) +
 -- 01: "an entry is one word: rule × 65536 + origin × 256 + a byte"
 unfoldable pub word : Grammar → Entry → ℕ
 word g e = e .rule * 65536 + e .origin * 256 + mask (members g (e .rule)) (e .rest)
+
+-- the members whose bit is set in the byte
+unfoldable pub restOf : List ℕ → ℕ → List ℕ
+restOf [] byte = []
+restOf (a ∷ members) byte = cond (eqb (byte % 2) 1) (a ∷ restOf members (byte / 2)) (restOf members (byte / 2))
+
+-- the entry that the word is
+unfoldable pub entryOf : Grammar → ℕ → Entry
+entryOf g w = record { rule = w / 65536; origin = w / 256 % 256; rest = restOf (members g (w / 65536)) (w % 256) }
 
 -- lists 0 to n, each a list of entries
 abbrev pub Sheet : Type 0
