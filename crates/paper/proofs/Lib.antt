@@ -9,3 +9,4 @@ pub mod Lists
 pub mod Closure
 pub mod SubMultisets
 pub mod Words
+pub mod Universe
