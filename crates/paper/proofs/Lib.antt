@@ -10,3 +10,4 @@ pub mod Closure
 pub mod SubMultisets
 pub mod Words
 pub mod Universe
+pub mod Building
