@@ -11,3 +11,4 @@ pub mod SubMultisets
 pub mod Words
 pub mod Universe
 pub mod Building
+pub mod Unique

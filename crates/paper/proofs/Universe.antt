@@ -14,6 +14,7 @@ use Rattle.paper.specs.Entry.{Entry, Stands, Found, fresh, taking}
 use Rattle.paper.specs.Entry.Found.{start, scan, predict, complete}
 use Rattle.paper.specs.Sheet.{sum, word}
 use Rattle.paper.specs.Price.{rests}
+use Rattle.paper.proofs.Lists.{Distinct, pigeonhole}
 use Rattle.paper.proofs.SubMultisets.{Listed, listed-all, listed-without, listed-minus}
 use Rattle.paper.proofs.Words.{word-same}
 
@@ -109,3 +110,7 @@ unfolding universe
 universe-has g j e p =
     let z : e .rule ≡ 0 + e .rule = omega arith in
     Memᴰ·cast (ap (λ h. entry h (e .origin) (e .rest)) z) (withRules-has 0 (e .rule) (e .origin) (suc j) (g .rules) (p .is-rule) (omega arith) (p .listed))
+
+-- a list of possible entries without repeats has at most D(j + 1)
+pub possible-few : (g : Grammar) (j : ℕ) (list : List Entry) → Distinct list → ((e : Entry) → List·Memᴰ e list → Possible g j e) → length list ≤ rests g * suc j
+possible-few g j list d h = omega (arith, pigeonhole list (universe g j) d (λ e m. universe-has g j e (h e m)), universe-size g j)
