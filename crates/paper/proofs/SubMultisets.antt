@@ -3,16 +3,15 @@
 use mathlib.Core.Path.{_≡_, refl, sym, _∙_, ap}
 use mathlib.Core.Logic.{_⊎_, inl, inr}
 use mathlib.Core.Bool.{Bool, true, false, cond}
-use mathlib.Core.List.{List, [], _∷_, _++_, List·Memᴰ, map, List·Memᴰ·not-nil, List·Memᴰ·cases-cons, List·Memᴰ·append-cases, List·Memᴰ·eq-of-singleton, Memᴰ·cast, Memᴰ·append-left, Memᴰ·append-right, Memᴰ·map}
-use mathlib.Core.List.List·Memᴰ.{List·Memᴰ·head, List·Memᴰ·tail}
-use Prim.Native.Nat.{ℕ, zero, suc, _+_, _≤_, _<_}
+use mathlib.Core.List.{List, [], _∷_, List·Memᴰ, map, List·Memᴰ·not-nil, List·Memᴰ·append-cases, List·Memᴰ·eq-of-singleton, Memᴰ·append-left, Memᴰ·append-right, Memᴰ·map}
+use mathlib.Core.List.List·Memᴰ.{List·Memᴰ·head}
+use Prim.Native.Nat.{ℕ, _+_, _≤_, _<_}
 use native.Mathlib.Omega.{arith}
 use native.Mathlib.Decide.{decLe, ℕ-discrete}
 use lib.Dec.{eqb}
-use lib.ListN.{length, getD}
 use borrow.Author.Tests.{eqb-true, eqb-false, eq-eqb, ne-eqb}
 use Rattle.paper.specs.Multiset.{bit, count, Arrangement, has, without, minus, keep, subMultisets}
-use Rattle.paper.proofs.Multiset.{count-self, count-other, count-has, count-without, arranged-cons, arranged-uncons, arranged-nil, arranged-sym, arranged-trans, arranged-without}
+use Rattle.paper.proofs.Multiset.{count-self, count-other, count-has, count-without, arranged-cons, arranged-uncons, arranged-sym, arranged-trans, arranged-without}
 use Rattle.paper.proofs.Lists.{mem-keep, keep-mem, map-mem, Distinct, distinct-append, distinct-keep, distinct-map}
 
 -- r is listed as a sub-multiset of s

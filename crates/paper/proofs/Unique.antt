@@ -1,14 +1,11 @@
 -- There is one sheet only for a grammar and a row.
 -- Assumes nothing.
-use mathlib.Core.Path.{_≡_, refl, sym, _∙_}
-use mathlib.Core.List.{List, [], _∷_, map}
-use Prim.Native.Nat.{ℕ, _≤_, _<_}
+use mathlib.Core.Path.{_≡_, sym, _∙_}
+use mathlib.Core.List.{List, [], map}
+use Prim.Native.Nat.{ℕ}
 use native.Mathlib.Omega.{arith}
-use lib.ListN.{length, getD}
 use lib.Seq.{ext-getD}
-use Rattle.paper.specs.Multiset.{StrictlyAscending}
 use Rattle.paper.specs.Grammar.{Grammar}
-use Rattle.paper.specs.Entry.{Entry}
 use Rattle.paper.specs.Sheet.{Sheet, IsSheet, listAt, word}
 use Rattle.paper.proofs.Closure.{Climbs, ascending-climbs, climbs-same}
 

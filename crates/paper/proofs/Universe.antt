@@ -1,14 +1,13 @@
 -- The entries that a list can have at all: their number, and that no two of them have one word.
 -- Assumes nothing.
-use mathlib.Core.Path.{_≡_, refl, sym, _∙_, ap}
-use mathlib.Core.Bool.{Bool, true, false}
+use mathlib.Core.Path.{_≡_, ap}
 use mathlib.Core.List.{List, [], _∷_, _++_, List·Memᴰ, map, Memᴰ·append-left, Memᴰ·append-right, Memᴰ·map, Memᴰ·cast}
 use Prim.Native.Nat.{ℕ, zero, suc, _+_, _*_, _≤_, _<_}
 use native.Mathlib.Omega.{arith}
 use native.Mathlib.Nat.{mul-suc, add-mul, mul-zero, zero-mul}
 use native.Mathlib.Decide.{decLt}
 use lib.ListN.{length, getD, length-append, length-map}
-use Rattle.paper.specs.Multiset.{minus, subMultisets}
+use Rattle.paper.specs.Multiset.{subMultisets}
 use Rattle.paper.specs.Grammar.{Grammar, Rule, IsGrammar, ruleCount, left, members}
 use Rattle.paper.specs.Entry.{Entry, Stands, Found, fresh, taking}
 use Rattle.paper.specs.Entry.Found.{start, scan, predict, complete}

@@ -2,21 +2,21 @@
 -- Assumes nothing.
 use mathlib.Core.Path.{_≡_, refl, sym, _∙_, ap}
 use mathlib.Core.Logic.{_⊎_, inl, inr}
-use mathlib.Core.Bool.{Bool, true, false, cond}
-use mathlib.Core.List.{List, [], _∷_, _++_}
-use Prim.Native.Nat.{ℕ, zero, suc, _+_, _*_, _^_, _/_, _%_, _≤_, _<_}
+use mathlib.Core.List.{List, [], _∷_}
+use Prim.Native.Nat.{ℕ, suc, _+_, _*_, _^_, _/_, _%_, _≤_, _<_}
 use native.Mathlib.Omega.{arith}
 use native.Mathlib.Nat.{pow-suc, pow-le-pow-right}
 use native.Mathlib.Decide.{ℕ-discrete}
-use lib.Dec.{eqb, leb}
+use lib.Dec.{leb}
 use lib.ListN.{length}
-use borrow.Author.Tests.{le-leb, lt-leb, eq-eqb, ne-eqb}
-use Rattle.paper.specs.Multiset.{bit, count}
+use lib.Count.{ones, onesIn, ones-step}
+use borrow.Author.Tests.{le-leb, lt-leb}
+use Rattle.paper.specs.Multiset.{count, minus}
 use Rattle.paper.specs.Grammar.{Grammar, IsGrammar, ruleCount, members}
 use Rattle.paper.specs.Entry.{Entry}
 use Rattle.paper.specs.Sheet.{mask, word, restOf, entryOf}
 use Rattle.paper.proofs.Multiset.{count-self, count-other, bit-le}
-use Rattle.paper.proofs.SubMultisets.{Listed, Present, listed-cases, listed-nil, listed-count}
+use Rattle.paper.proofs.SubMultisets.{Listed, Present, listed-cases, listed-nil, listed-count, listed-minus}
 
 -- ---- masks
 
@@ -76,6 +76,34 @@ restOf-mask (a ∷ s) {r} m = go (listed-cases a s m) (λ q n. restOf-mask s n)
     go (inr p) ih =
         ap (λ t. restOf (a ∷ s) (mask (a ∷ s) t)) (p .r-is)
           ∙ (ap (restOf (a ∷ s)) (mask-present a s (p .q) (p .every)) ∙ (restOf-set a s (mask s (p .q)) ∙ (ap (a ∷_) (ih (p .q) (p .listed)) ∙ sym (p .r-is))))
+
+-- so the mask of the members less those found says which those are
+pub restOf-minus : (s found : List ℕ) → restOf s (mask s (minus s found)) ≡ minus s found
+restOf-minus s found = restOf-mask s (listed-minus s found)
+
+ones-clear : (n : ℕ) → ones (0 + 2 * n) ≡ ones n
+ones-clear n =
+    let e : (0 + 2 * n) % 2 ≡ 0 = omega arith in
+    let f : (0 + 2 * n) / 2 ≡ n = omega arith in
+    omega (arith, ones-step (0 + 2 * n), ap ones f)
+
+ones-set : (n : ℕ) → ones (1 + 2 * n) ≡ suc (ones n)
+ones-set n =
+    let e : (1 + 2 * n) % 2 ≡ 1 = omega arith in
+    let f : (1 + 2 * n) / 2 ≡ n = omega arith in
+    omega (arith, ones-step (1 + 2 * n), ap ones f)
+
+-- 01: "how many are left is the number of ones in it"
+pub ones-mask : (s : List ℕ) {r : List ℕ} → Listed r s → ones (mask s r) ≡ length r
+unfolding mask ones onesIn
+ones-mask [] m = ap length (sym (listed-nil m))
+ones-mask (a ∷ s) {r} m = go (listed-cases a s m) (λ q n. ones-mask s n)
+  where
+    go : Listed r s ⊎ Present a s r → ((q : List ℕ) → Listed q s → ones (mask s q) ≡ length q) → ones (mask (a ∷ s) r) ≡ length r
+    go (inl n) ih = ap ones (mask-missing a s n) ∙ (ones-clear (mask s r) ∙ ih r n)
+    go (inr p) ih =
+        ap (λ t. ones (mask (a ∷ s) t)) (p .r-is)
+          ∙ (ap ones (mask-present a s (p .q) (p .every)) ∙ (ones-set (mask s (p .q)) ∙ (ap suc (ih (p .q) (p .listed)) ∙ sym (ap length (p .r-is)))))
 
 -- ---- words
 
