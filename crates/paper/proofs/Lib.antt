@@ -12,3 +12,4 @@ pub mod Words
 pub mod Universe
 pub mod Building
 pub mod Unique
+pub mod Outcome
