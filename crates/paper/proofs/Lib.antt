@@ -12,4 +12,5 @@ pub mod Words
 pub mod Universe
 pub mod Building
 pub mod Unique
+pub mod Lines
 pub mod Outcome
