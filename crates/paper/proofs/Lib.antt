@@ -12,5 +12,6 @@ pub mod Words
 pub mod Universe
 pub mod Building
 pub mod Unique
+pub mod Pigeonhole
 pub mod Lines
 pub mod Outcome
