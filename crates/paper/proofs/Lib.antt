@@ -14,4 +14,5 @@ pub mod Building
 pub mod Unique
 pub mod Pigeonhole
 pub mod Lines
+pub mod Spans
 pub mod Outcome

@@ -1,7 +1,7 @@
 -- Valid lines are a derivation tree of the row: each line is a node, and its parts are tokens or the trees of earlier lines.
 -- Assumes nothing.
-use mathlib.Core.Path.{_≡_, refl, subst₃}
-use mathlib.Core.List.{List, [], _∷_}
+use mathlib.Core.Path.{refl, subst₃}
+use mathlib.Core.List.{List}
 use Prim.Native.Nat.{ℕ, zero, suc, _-_, _≤_, _<_}
 use native.Mathlib.Omega.{arith}
 use lib.ListN.{length}

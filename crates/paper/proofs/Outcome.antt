@@ -1,12 +1,11 @@
 -- Two permitted outcomes of one call are equal: the answers, and what is left in the buffers (for a row that is read, the lines apart).
 -- Assumes nothing.
-use mathlib.Core.Path.{_≡_, refl, sym, _∙_, ap}
-use mathlib.Core.List.{List, [], _∷_}
-use Prim.Native.Nat.{ℕ, zero, suc, _≤_, _<_}
+use mathlib.Core.Path.{_≡_, ap}
+use mathlib.Core.List.{List}
+use Prim.Native.Nat.{ℕ, _<_}
 use native.Mathlib.Omega.{arith}
 use lib.ListN.{length}
 use Rattle.paper.specs.Grammar.{Grammar}
-use Rattle.paper.specs.Derivation.{InLanguage}
 use Rattle.paper.specs.Sheet.{Sheet, IsSheet, entries}
 use Rattle.paper.specs.Image.{grammarOf}
 use Rattle.paper.specs.Lines.{LineRight, Judged}

@@ -3,7 +3,7 @@
 use mathlib.Core.Path.{_≡_, refl, sym, _∙_}
 use mathlib.Core.List.{List, [], _∷_, List·Memᴰ, List·Memᴰ·not-nil, Memᴰ·cast}
 use mathlib.Core.List.List·Memᴰ.{List·Memᴰ·head, List·Memᴰ·tail}
-use Prim.Native.Nat.{ℕ, suc, _≤_}
+use Prim.Native.Nat.{suc, _≤_}
 use native.Mathlib.Omega.{arith}
 use lib.ListN.{length}
 
@@ -39,7 +39,8 @@ module _ {A : Type 0} where
   pigeonhole ys NoRepeats.none inside = omega arith
   pigeonhole ys (NoRepeats.more {x = x} {xs = xs} new rest) inside =
       let at : List·Memᴰ x ys = inside x (List·Memᴰ·head refl) in
-      omega
-      (arith,
-      length-removed ys at,
-      pigeonhole (removed ys at) rest (λ z m. still-there ys at (λ e. new (Memᴰ·cast (sym e) m)) (inside z (List·Memᴰ·tail m))))
+      omega (
+        arith,
+        length-removed ys at,
+        pigeonhole (removed ys at) rest (λ z m. still-there ys at (λ e. new (Memᴰ·cast (sym e) m)) (inside z (List·Memᴰ·tail m))),
+      )
