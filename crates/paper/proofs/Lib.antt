@@ -16,3 +16,4 @@ pub mod Pigeonhole
 pub mod Lines
 pub mod Spans
 pub mod Outcome
+pub mod LineNumbers
