@@ -17,3 +17,4 @@ pub mod Lines
 pub mod Spans
 pub mod Outcome
 pub mod LineNumbers
+pub mod LineTable
