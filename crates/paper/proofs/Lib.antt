@@ -18,3 +18,4 @@ pub mod Spans
 pub mod Outcome
 pub mod LineNumbers
 pub mod LineTable
+pub mod Writing

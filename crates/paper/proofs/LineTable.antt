@@ -71,8 +71,8 @@ line-kept {g} {row} {before} {after} n k is l d h r =
         r .unshared i b (sym (ap (left g) (other .rule)) ∙ (s ∙ ap (left g) (same .rule))) (sym (other .from) ∙ (f ∙ same .from)) (sym (other .to) ∙ (t ∙ same .to))
     }
 
--- A line that is in the table stays in it,
-pub has-line-kept : {g : Grammar} {row before after : List ℕ} {n a i j : ℕ} (m : ℕ) → Table g row before n → Extends before after → n ≤ m → HasLine g before n a i j
+-- A line that is in the table stays in it, under its number,
+unfoldable pub has-line-kept : {g : Grammar} {row before after : List ℕ} {n a i j : ℕ} (m : ℕ) → Table g row before n → Extends before after → n ≤ m → HasLine g before n a i j
     → HasLine g after m a i j
 has-line-kept {g} {n = n} m t d b h =
     let same = kept d n (h .line) (t .whole) (h .below) in
