@@ -2,12 +2,11 @@
 -- Assumes nothing.
 use mathlib.Core.Path.{_≡_, refl, sym, _∙_, ap}
 use mathlib.Core.List.{List, [], _∷_, _++_, append-assoc, append-nil}
-use Prim.Native.Nat.{ℕ, zero, suc, _+_, _-_, _*_, _/_, _≤_, _<_}
+use Prim.Native.Nat.{ℕ, suc, _+_, _-_, _*_, _≤_, _<_}
 use native.Mathlib.Omega.{arith}
-use native.Mathlib.Decide.{decLt}
-use lib.ListN.{length, getD, take, drop, replicate, length-append, length-drop, length-replicate, getD-replicate, List·getD-append, List·getD-eq-default}
+use lib.ListN.{length, getD, take, drop, replicate, length-append, length-drop, length-replicate, getD-replicate, List·getD-append}
 use lib.Seq.{take-append-le, drop-append-le, drop-append-add, getD-append-add, take-append-seam}
-use Rattle.paper.specs.Lines.{lineSize, lineCount, lineRule, lineFrom, lineTo, lineParts, lineSlot, partSlots}
+use Rattle.paper.specs.Lines.{lineSize, lineRule, lineFrom, lineTo, lineParts, lineSlot, partSlots}
 
 -- the numbers after are the numbers before and some appended
 pub record Extends (before after : List ℕ) : Type 0 where

@@ -1,17 +1,17 @@
 -- Tables of right lines: nothing in them changes when more is appended, lines can be looked up, and a right line can be added.
 -- Assumes nothing.
 use mathlib.Core.Path.{_≡_, refl, sym, _∙_, ap}
-use mathlib.Core.List.{List, [], _∷_, _++_}
-use Prim.Native.Nat.{ℕ, zero, suc, _+_, _-_, _*_, _/_, _≤_, _<_}
+use mathlib.Core.List.{List, _++_}
+use Prim.Native.Nat.{ℕ, zero, suc, _*_, _≤_, _<_}
 use native.Mathlib.Omega.{arith}
 use native.Mathlib.Decide.{ℕ-discrete, decLt}
-use lib.ListN.{length, getD, take, drop, length-append}
+use lib.ListN.{length, length-append}
 use Rattle.paper.specs.Multiset.{Arrangement}
 use Rattle.paper.specs.Grammar.{Grammar, IsGrammar, ruleCount, left, members}
 use Rattle.paper.specs.Derivation.{Acceptable}
-use Rattle.paper.specs.Lines.{lineSize, lineCount, lineRule, lineFrom, lineTo, lineParts, lineSlot, partSlots, lineSymbol, Joins, LineRight, Uses}
+use Rattle.paper.specs.Lines.{lineSize, lineRule, lineFrom, lineTo, lineParts, lineSymbol, Joins, LineRight, Uses}
 use Rattle.paper.proofs.Multiset.{arranged-length}
-use Rattle.paper.proofs.LineNumbers.{Extends, extends-append, Kept, kept, lineOf, line-length, Reads, reads-back}
+use Rattle.paper.proofs.LineNumbers.{Extends, extends-append, kept, lineOf, line-length, reads-back}
 
 -- n whole lines, each of them right
 pub record Table (g : Grammar) (row ns : List ℕ) (n : ℕ) : Type 0 where
@@ -33,9 +33,11 @@ pub record Used (ns : List ℕ) (n k : ℕ) : Type 0 where
   pub below : by < n
   pub uses : Uses ns by k
 
+-- a right line has at most eight parts
 few-parts : {g : Grammar} {row ns : List ℕ} {k : ℕ} → IsGrammar g → LineRight g row ns k → lineParts ns k ≤ 8
 few-parts {ns = ns} {k = k} is r = let m = is .few-members (lineRule ns k) (r .rule-is) in omega (arith, r .parts-are)
 
+-- each symbol has a slot
 pub joins-length : {g : Grammar} {row ns : List ℕ} {k i j : ℕ} {slots s : List ℕ} → Joins g row ns k slots i j s → length slots ≡ length s
 joins-length Joins.end = refl
 joins-length (Joins.token b e rest) = ap suc (joins-length rest)
@@ -72,15 +74,21 @@ line-kept {g} {row} {before} {after} n k is l d h r =
     }
 
 -- A line that is in the table stays in it, under its number,
-unfoldable pub has-line-kept : {g : Grammar} {row before after : List ℕ} {n a i j : ℕ} (m : ℕ) → Table g row before n → Extends before after → n ≤ m → HasLine g before n a i j
-    → HasLine g after m a i j
+unfoldable pub has-line-kept : {g : Grammar} {row before after : List ℕ} {n a i j : ℕ} (m : ℕ) → Table g row before n → Extends before after → n ≤ m
+    → HasLine g before n a i j → HasLine g after m a i j
 has-line-kept {g} {n = n} m t d b h =
     let same = kept d n (h .line) (t .whole) (h .below) in
-    record { line = h .line; below = omega arith; symbol-is = ap (left g) (same .rule) ∙ h .symbol-is; from-is = same .from ∙ h .from-is; to-is = same .to ∙ h .to-is }
+    record
+    { line = h .line
+    ; below = omega arith
+    ; symbol-is = ap (left g) (same .rule) ∙ h .symbol-is
+    ; from-is = same .from ∙ h .from-is
+    ; to-is = same .to ∙ h .to-is
+    }
 
--- a line that is in it later and of the front's number was in the front,
-pub has-line-before : {g : Grammar} {row before after : List ℕ} {n m a i j : ℕ} → Table g row before n → Extends before after → (h : HasLine g after m a i j) → h .line < n
-    → HasLine g before n a i j
+-- one that is found later under a number of the front was there before,
+pub has-line-before : {g : Grammar} {row before after : List ℕ} {n m a i j : ℕ} → Table g row before n → Extends before after
+    → (h : HasLine g after m a i j) → h .line < n → HasLine g before n a i j
 has-line-before {g} {n = n} t d h b =
     let same = kept d n (h .line) (t .whole) b in
     record
@@ -92,7 +100,8 @@ has-line-before {g} {n = n} t d h b =
     }
 
 -- and a line that is used stays used.
-pub used-kept : {g : Grammar} {row before after : List ℕ} {n k : ℕ} (m : ℕ) → IsGrammar g → Table g row before n → Extends before after → n ≤ m → Used before n k → Used after m k
+pub used-kept : {g : Grammar} {row before after : List ℕ} {n k : ℕ} (m : ℕ) → IsGrammar g → Table g row before n → Extends before after → n ≤ m
+    → Used before n k → Used after m k
 used-kept {n = n} m is t d b u =
     let same = kept d n (u .by) (t .whole) (u .below) in
     let few = few-parts is (t .right (u .by) (u .below)) in
@@ -112,6 +121,7 @@ newest {n = n} none h = go (decLt (h .line) n)
     go (yes b) = absurd (none (record { line = h .line; below = b; symbol-is = h .symbol-is; from-is = h .from-is; to-is = h .to-is }))
     go (no b) = let c = h .below in omega arith
 
+-- one line more to look at
 find-step : {g : Grammar} {ns : List ℕ} {n a i j : ℕ} → Dec (HasLine g ns n a i j) → Dec (lineSymbol g ns n ≡ a) → Dec (lineFrom ns n ≡ i) → Dec (lineTo ns n ≡ j)
     → Dec (HasLine g ns (suc n) a i j)
 find-step (yes h) s f t = yes (record { line = h .line; below = let b = h .below in omega arith; symbol-is = h .symbol-is; from-is = h .from-is; to-is = h .to-is })
@@ -125,13 +135,14 @@ pub find-line : (g : Grammar) (ns : List ℕ) (a i j n : ℕ) → Dec (HasLine g
 find-line g ns a i j zero = no (λ h. let b = h .below in omega arith)
 find-line g ns a i j (suc n) = find-step (find-line g ns a i j n) (ℕ-discrete (lineSymbol g ns n) a) (ℕ-discrete (lineFrom ns n) i) (ℕ-discrete (lineTo ns n) j)
 
-module _ {g : Grammar} {row ns : List ℕ} {n i j : ℕ} {slots s : List ℕ} (h : ℕ) (is : IsGrammar g) (table : Table g row ns n) (rule-is : h < ruleCount g) (span : i ≤ j)
-    (within : j ≤ length row) (joins : Joins g row ns n slots i j s) (arranged : Arrangement s (members g h)) (acceptable : Acceptable g s)
-    (none : HasLine g ns n (left g h) i j → ⊥) where
+module _ {g : Grammar} {row ns : List ℕ} {n i j : ℕ} {slots s : List ℕ} (h : ℕ) (is : IsGrammar g) (table : Table g row ns n)
+    (rule-is : h < ruleCount g) (span : i ≤ j) (within : j ≤ length row) (joins : Joins g row ns n slots i j s)
+    (arranged : Arrangement s (members g h)) (acceptable : Acceptable g s) (none : HasLine g ns n (left g h) i j → ⊥) where
 
   parts-are : length slots ≡ length (members g h)
   parts-are = joins-length joins ∙ arranged-length s (members g h) arranged
 
+  -- the line is right
   new-line : LineRight g row (ns ++ lineOf h i j slots) n
   new-line =
       let back = reads-back ns n h i j slots (table .whole) in
@@ -146,9 +157,13 @@ module _ {g : Grammar} {row ns : List ℕ} {n i j : ℕ} {slots s : List ℕ} (h
       ; joins = rw (back .slots-are, back .from-is, back .to-is) (joins-kept n n (table .whole) d (omega arith) (omega arith) joins)
       ; arranged = rw (back .rule-is) arranged
       ; acceptable = acceptable
-      ; unshared = λ k b e f t. none (has-line-before table d (record { line = k; below = b; symbol-is = e ∙ ap (left g) (back .rule-is); from-is = f ∙ back .from-is; to-is = t ∙ back .to-is }) b)
+      ; unshared = λ k b e f t.
+          let l : HasLine g (ns ++ lineOf h i j slots) n (left g h) i j =
+                record { line = k; below = b; symbol-is = e ∙ ap (left g) (back .rule-is); from-is = f ∙ back .from-is; to-is = t ∙ back .to-is } in
+          none (has-line-before table d l b)
       }
 
+  -- and those before it stay so
   each-line : (k : ℕ) → k < suc n → Dec (k < n) → LineRight g row (ns ++ lineOf h i j slots) k
   each-line k b (yes c) = line-kept n k is (table .whole) (extends-append ns (lineOf h i j slots)) c (table .right k c)
   each-line k b (no c) = let e : k ≡ n = omega arith in rw e new-line

@@ -1,12 +1,9 @@
 -- Writing the lines of a tree: every row that has a tree has valid lines.
--- A tree is written into a table of lines. If its symbol and span are there already, nothing is added. Else its parts are written from left to right,
--- and one line for the tree behind them. A symbol that stands below itself over the same span would then be there too early: in that case its parts
--- brought to light a lower tree of the same symbol and span, and that one is written instead.
 -- Assumes nothing.
-use mathlib.Core.Path.{_≡_, refl, sym, _∙_, ap}
+use mathlib.Core.Path.{_≡_, refl, _∙_, ap}
 use mathlib.Core.Logic.{_⊎_, inl, inr}
 use mathlib.Core.List.{List, [], _∷_, _++_}
-use Prim.Native.Nat.{ℕ, zero, suc, _+_, _-_, _*_, _/_, _%_, _≤_, _<_, max}
+use Prim.Native.Nat.{ℕ, zero, suc, _-_, _*_, _≤_, _<_, max}
 use native.Mathlib.Omega.{arith}
 use native.Mathlib.Decide.{decLt}
 use lib.ListN.{length, getD}
@@ -14,9 +11,13 @@ use Rattle.paper.specs.Multiset.{Arrangement}
 use Rattle.paper.specs.Grammar.{Grammar, IsGrammar, IsRow, ruleCount, left, members}
 use Rattle.paper.specs.Derivation.{Acceptable}
 use Rattle.paper.specs.Tree.{Tree, Parts}
-use Rattle.paper.specs.Lines.{lineSize, lineCount, lineRule, lineFrom, lineTo, lineParts, lineSlot, lineSymbol, Joins, LineRight, Uses, WholeRight, Valid}
-use Rattle.paper.proofs.LineNumbers.{Extends, extends-refl, extends-append, extends-trans, Kept, kept, lineOf, Reads, reads-back}
+use Rattle.paper.specs.Lines.{lineSize, lineCount, lineFrom, lineTo, lineSymbol, Joins, Valid}
+use Rattle.paper.proofs.LineNumbers.{Extends, extends-refl, extends-append, extends-trans, kept, lineOf, reads-back}
 use Rattle.paper.proofs.LineTable.{Table, HasLine, Used, has-line-kept, has-line-before, used-kept, find-line, add-line}
+
+-- How a tree is written: if a line of its symbol and span is in the table, nothing is added. Else its parts are written from left to right, and behind
+-- them one line for the tree. If that symbol and span came with the parts, then a lower tree has them, and that one is written instead; so the line of
+-- the tree is always the last, and every other new line is used.
 
 -- how many rules stand below one another
 abbrev mutual
@@ -28,6 +29,7 @@ abbrev mutual
   heights (Parts.done b) = 0
   heights (Parts.part tree parts) = max (height tree) (heights parts)
 
+-- a tree goes forward and ends within the row
 mutual
   tree-span : {g : Grammar} {row : List ℕ} {a i j : ℕ} → Tree g row a i j → (i ≤ j) × (j ≤ length row)
   tree-span (Tree.token b e) = (omega arith, b)
@@ -49,15 +51,18 @@ record Growth (g : Grammar) (row : List ℕ) (f : ℕ) (before : List ℕ) (n : 
   table : Table g row after count
   trees : (k : ℕ) → n ≤ k → k < count → LowTree g row f (lineSymbol g after k) (lineFrom after k) (lineTo after k)
 
+-- nothing is added
 no-growth : {g : Grammar} {row ns : List ℕ} {n f : ℕ} → Table g row ns n → Growth g row f ns n ns n
 no-growth {ns = ns} t = record { more = omega arith; extends = extends-refl ns; table = t; trees = λ k b c. absurd (let z : ⊥ = omega arith in z) }
 
+-- a bound on heights may be raised
 higher : {g : Grammar} {row : List ℕ} {f a i j : ℕ} → LowTree g row f a i j → LowTree g row (suc f) a i j
 higher t = record { tree = t .tree; low = let b = t .low in omega arith }
 
 growth-higher : {g : Grammar} {row before after : List ℕ} {n count f : ℕ} → Growth g row f before n after count → Growth g row (suc f) before n after count
 growth-higher w = record { more = w .more; extends = w .extends; table = w .table; trees = λ k b c. higher (w .trees k b c) }
 
+-- one growth after another
 growth-then : {g : Grammar} {row ns ms ls : List ℕ} {n m l f : ℕ} → Growth g row f ns n ms m → Growth g row f ms m ls l → Growth g row f ns n ls l
 growth-then {g} {row} {ns} {ms} {ls} {n} {m} {l} {f} v w =
     let b = v .more in
@@ -73,12 +78,14 @@ data Held (g : Grammar) (row ns : List ℕ) (n : ℕ) : ℕ → ℕ → ℕ → 
   token : {a i : ℕ} → i < length row → getD row i 0 ≡ a → Held g row ns n 0 a i (suc i)
   line : {a i j : ℕ} (h : HasLine g ns n a i j) → Held g row ns n (suc (h .line)) a i j
 
+-- a slot holds on when more is appended
 held-kept : {g : Grammar} {row before after : List ℕ} {n m slot a i j : ℕ} → Table g row before n → Extends before after → n ≤ m → Held g row before n slot a i j
     → Held g row after m slot a i j
 unfolding has-line-kept
 held-kept t d b (Held.token h e) = Held.token h e
 held-kept {m = m} t d b (Held.line h) = Held.line (has-line-kept m t d b h)
 
+-- a slot in front of slots that join
 held-joins : {g : Grammar} {row ns : List ℕ} {n slot a i k j : ℕ} {slots s : List ℕ} → Held g row ns n slot a i k → Joins g row ns n slots k j s
     → Joins g row ns n (slot ∷ slots) i j (a ∷ s)
 held-joins (Held.token h e) rest = Joins.token h e rest
@@ -125,6 +132,7 @@ unwritten {ns = ns} {n = n} {slot = slot} t h = record
   ; used = λ k b c. absurd (let z : ⊥ = omega arith in z)
   }
 
+-- a slot in front moves the others by one place
 shifted : {slots : List ℕ} {k : ℕ} (slot : ℕ) → Named slots k → Named (slot ∷ slots) k
 shifted slot x = record { place = suc (x .place); below = let b = x .below in omega arith; names = x .names }
 
@@ -148,6 +156,7 @@ part-then {n = n} is w v = record
     front k b c (yes p) (yes q) = inl (used-kept (v .count) is (w .growth .table) (v .growth .extends) (v .growth .more) (w .used k b q))
     front k b c (yes p) (no q) = inr (record { place = 0; below = omega arith; names = let e = w .last (omega arith) in omega arith })
 
+-- no parts, no slots
 no-parts : {g : Grammar} {row ns : List ℕ} {f n i : ℕ} → Table g row ns n → PartsWritten g row f ns n [] i i
 no-parts {ns = ns} {n = n} t =
     record { after = ns; count = n; growth = no-growth t; slots = []; joins = Joins.end; used = λ k b c. absurd (let z : ⊥ = omega arith in z) }
@@ -182,8 +191,8 @@ used-behind {n} ns h i j slots l b x =
     }
 
 -- The line of a tree is written behind the lines of its parts.
-line-behind : {g : Grammar} {row ns : List ℕ} {f n i j : ℕ} {s : List ℕ} (h : ℕ) → IsGrammar g → h < ruleCount g → Arrangement s (members g h) → Acceptable g s
-    → (parts : Parts g row s i j) → heights parts ≤ f → (v : PartsWritten g row f ns n s i j) → (HasLine g (v .after) (v .count) (left g h) i j → ⊥)
+line-behind : {g : Grammar} {row ns : List ℕ} {f n i j : ℕ} {s : List ℕ} (h : ℕ) → IsGrammar g → h < ruleCount g → Arrangement s (members g h)
+    → Acceptable g s → (parts : Parts g row s i j) → heights parts ≤ f → (v : PartsWritten g row f ns n s i j) → (HasLine g (v .after) (v .count) (left g h) i j → ⊥)
     → Written g row (suc f) ns n (left g h) i j
 line-behind {g} {row} {ns} {f} {n} {i} {j} {s} h is b arranged acceptable parts low v none =
     let span = parts-span parts in
@@ -193,7 +202,8 @@ line-behind {g} {row} {ns} {f} {n} {i} {j} {s} h is b arranged acceptable parts 
     record
     { after = v .after ++ lineOf h i j (v .slots)
     ; count = suc (v .count)
-    ; growth = growth-then (growth-higher (v .growth)) (growth-line h i j (v .slots) t u (record { tree = Tree.node h b refl arranged acceptable parts; low = omega arith }))
+    ; growth = growth-then (growth-higher (v .growth))
+        (growth-line h i j (v .slots) t u (record { tree = Tree.node h b refl arranged acceptable parts; low = omega arith }))
     ; slot = suc (v .count)
     ; held = Held.line (record { line = v .count; below = omega arith; symbol-is = ap (left g) (back .rule-is); from-is = back .from-is; to-is = back .to-is })
     ; last = λ c. refl
@@ -218,8 +228,8 @@ written-higher w =
     record { after = w .after; count = w .count; growth = growth-higher (w .growth); slot = w .slot; held = w .held; last = w .last; used = w .used }
 
 -- A tree can be written if all lower trees can.
-write-node : {g : Grammar} {row : List ℕ} {f i j : ℕ} {s : List ℕ} (h : ℕ) → IsGrammar g → Writes g row f → h < ruleCount g → Arrangement s (members g h) → Acceptable g s
-    → (parts : Parts g row s i j) → heights parts ≤ f → (ns : List ℕ) (n : ℕ) → Table g row ns n → Written g row (suc f) ns n (left g h) i j
+write-node : {g : Grammar} {row : List ℕ} {f i j : ℕ} {s : List ℕ} (h : ℕ) → IsGrammar g → Writes g row f → h < ruleCount g → Arrangement s (members g h)
+    → Acceptable g s → (parts : Parts g row s i j) → heights parts ≤ f → (ns : List ℕ) (n : ℕ) → Table g row ns n → Written g row (suc f) ns n (left g h) i j
 write-node {g} {row} {f} {i} {j} {s} h is writes b arranged acceptable parts low ns n t = there (find-line g ns (left g h) i j n)
   where
     came : (HasLine g ns n (left g h) i j → ⊥) → (v : PartsWritten g row f ns n s i j) → Dec (HasLine g (v .after) (v .count) (left g h) i j)
@@ -230,11 +240,13 @@ write-node {g} {row} {f} {i} {j} {s} h is writes b arranged acceptable parts low
     there (yes l) = unwritten t (Held.line l)
     there (no none) = let v = write-parts is writes parts low ns n t in came none v (find-line g (v .after) (left g h) i j (v .count))
 
+-- one more rule above
 write-step : {g : Grammar} {row : List ℕ} {f : ℕ} → IsGrammar g → Writes g row f → Writes g row (suc f)
 write-step is writes ns n t a i j (Tree.token b e) low = unwritten t (Held.token b e)
 write-step is writes ns n t a i j (Tree.node h b e arranged acceptable parts) low =
     rw (← e) (write-node h is writes b arranged acceptable parts (omega arith) ns n t)
 
+-- a tree of height 0 is a token, and needs no line
 write-token : {g : Grammar} {row : List ℕ} → Writes g row 0
 write-token ns n t a i j (Tree.token b e) low = unwritten t (Held.token b e)
 write-token ns n t a i j (Tree.node h b e arranged acceptable parts) low = absurd (let z : ⊥ = omega arith in z)
@@ -273,6 +285,7 @@ valid {g} {row} {f} is tokens w =
       }
     }
 
+-- the table to begin with
 empty-table : {g : Grammar} {row : List ℕ} → Table g row [] 0
 empty-table = record { whole = omega arith; right = λ k b. absurd (let z : ⊥ = omega arith in z) }
 
