@@ -19,3 +19,6 @@ pub mod Outcome
 pub mod LineNumbers
 pub mod LineTable
 pub mod Writing
+pub mod Records
+pub mod Order
+pub mod Image

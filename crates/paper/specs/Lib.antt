@@ -10,3 +10,5 @@ pub mod Image
 pub mod Lines
 pub mod Outcome
 pub mod Building
+pub mod Records
+pub mod Written

@@ -1,0 +1,127 @@
+-- An admitted image means a grammar: what each of the refusals 10 to 14 shuts out.
+-- Assumes nothing.
+use mathlib.Core.Path.{_≡_, refl, sym, _∙_, ap, subst⁻¹}
+use mathlib.Core.Bool.{Bool, true, false, not, _&&_, _||_, cond, and-eq-true-iff}
+use mathlib.Core.List.{List, [], _∷_, _++_}
+use Prim.Native.Nat.{ℕ, zero, suc, _+_, _*_, _≤_, _<_}
+use native.Mathlib.Omega.{arith}
+use lib.Dec.{eqb, leb, ltb}
+use lib.ListN.{length, getD, take, drop, length-take, length-drop}
+use borrow.Author.Tests.{eqb-true, leb-true, ltb-true}
+use Rattle.paper.specs.Grammar.{Rule, Grammar, ruleCount, ruleAt, IsNonterminal, StrictPartialOrder, IsGrammar}
+use Rattle.paper.specs.Image.{every, byte, twoBytes, kind, offset, extent, body, contentsRight, symbolsRight, rulesFault, pairFault, closingFault, Spot, sound, at}
+use Rattle.paper.specs.Image.{Fault, refuse, wrongIf, imageTerminals, imageSymbols, imagePairs, imageFault, grammarOf, house, pairsOf, rulesOf, ruleOf, paired}
+use Rattle.paper.specs.Records.{recordAt}
+use Rattle.paper.proofs.Records.{rules-count, rules-at, RightRule, RightRules, record-is, rules-right, rules-unlike, members-count}
+use Rattle.paper.proofs.Order.{closed-order}
+
+-- The five tests that an image passes.
+pub record Admitted (b : List ℕ) : Type 0 where
+  pub contents : contentsRight b ≡ true
+  pub symbols : symbolsRight (body b 0) ≡ true
+  pub rules : rulesFault (imageTerminals b) (imageSymbols b) (body b 1) ≡ sound
+  pub pairs : pairFault (imageSymbols b) 0 0 (body b 2) ≡ sound
+  pub closed : closingFault (imagePairs b) 0 (imagePairs b) ≡ sound
+
+-- a refusal has a number, so where the number is 0 nothing is at fault
+passed : (n : ℕ) (spot : Spot) (next : Fault) → refuse (suc n) spot next .number ≡ 0 → (spot ≡ sound) × (next .number ≡ 0)
+passed n sound next h = (refl, h)
+passed n (at k) next h = absurd (let z : ⊥ = omega arith in z)
+
+right-is : (right : Bool) → wrongIf right ≡ sound → right ≡ true
+right-is true h = refl
+right-is false h = absurd (let z : _≡_ {A = ℕ} 0 1 = cc in let k : ⊥ = omega arith in k)
+
+pub record RightSymbols (s : List ℕ) : Type 0 where
+  pub size : length s ≡ 3
+  pub a-terminal : 1 ≤ byte s 0
+  pub a-nonterminal : 1 ≤ byte s 1
+  pub few : byte s 0 + byte s 1 ≤ 64
+  pub start-above : byte s 0 ≤ byte s 2
+  pub start-below : byte s 2 < byte s 0 + byte s 1
+
+-- 11 is not the answer: the symbols body is as 01 says
+pub symbols-right : (s : List ℕ) → symbolsRight s ≡ true → RightSymbols s
+unfolding symbolsRight
+symbols-right s h = let k = simp and-eq-true-iff at h in omega (arith, eqb-true, leb-true, ltb-true)
+
+pub record RightContents (b : List ℕ) : Type 0 where
+  pub size : 17 ≤ length b
+  pub form : byte b 0 ≡ 1
+  pub bodies : byte b 1 ≡ 3
+  pub kind-0 : kind b 0 ≡ 1
+  pub kind-1 : kind b 1 ≡ 2
+  pub kind-2 : kind b 2 ≡ 3
+  pub offset-0 : offset b 0 ≡ 17
+  pub offset-1 : offset b 1 ≡ offset b 0 + extent b 0
+  pub offset-2 : offset b 2 ≡ offset b 1 + extent b 1
+  pub ends : length b ≡ offset b 2 + extent b 2
+
+pub contents-right : (b : List ℕ) → contentsRight b ≡ true → RightContents b
+unfolding contentsRight
+contents-right b h = let k = simp and-eq-true-iff at h in omega (arith, eqb-true, leb-true)
+
+pub admitted : (b : List ℕ) → imageFault b .number ≡ 0 → Admitted b
+unfolding imageFault
+admitted b h =
+    let k = passed 9 (wrongIf (contentsRight b)) _ h in
+    let l = passed 10 (wrongIf (symbolsRight (body b 0))) _ (k .1) in
+    let m = passed 11 (rulesFault (imageTerminals b) (imageSymbols b) (body b 1)) _ (l .1) in
+    let n = passed 12 (pairFault (imageSymbols b) 0 0 (body b 2)) _ (m .1) in
+    let o = passed 13 (closingFault (imagePairs b) 0 (imagePairs b)) _ (n .1) in
+    record {
+      contents = right-is (contentsRight b) (k .0);
+      symbols = right-is (symbolsRight (body b 0)) (l .0);
+      rules = m .0;
+      pairs = n .0;
+      closed = o .0;
+    }
+
+pub admitted-number : (b : List ℕ) → Admitted b → imageFault b .number ≡ 0
+unfolding imageFault
+admitted-number b a = rw (a .contents, a .symbols, a .rules, a .pairs, a .closed)
+
+-- A grammar from three bodies that are right.
+
+partsGrammar : (s r p : List ℕ) → Grammar
+partsGrammar s r p =
+    record { terminals = byte s 0; nonterminals = byte s 1; start = byte s 2; rules = rulesOf (byte r 0) (drop 1 r); precedes = paired (pairsOf p) }
+
+module _ (s r p : List ℕ) (symbols : RightSymbols s) (rules : RightRules (byte s 0) (byte s 0 + byte s 1) r) (order : StrictPartialOrder (paired (pairsOf p))) where
+  below-count : (h : ℕ) → h < ruleCount (partsGrammar s r p) → h < byte r 0
+  unfolding partsGrammar
+  below-count h l = omega (arith, rules-count (byte r 0) (drop 1 r))
+
+  rule-is : (h : ℕ) → h < ruleCount (partsGrammar s r p) → ruleAt (partsGrammar s r p) h ≡ ruleOf (recordAt h (drop 1 r))
+  unfolding partsGrammar
+  rule-is h l = rules-at (byte r 0) h (drop 1 r) (record { left = 0; members = [] }) (below-count h l)
+
+  rule-right : (h : ℕ) → h < ruleCount (partsGrammar s r p) → RightRule (byte s 0) (byte s 0 + byte s 1) (ruleAt (partsGrammar s r p) h)
+  rule-right h l = subst⁻¹ (RightRule (byte s 0) (byte s 0 + byte s 1)) (rule-is h l) (record-is (rules .records) h (below-count h l) .rule)
+
+  parts-grammar : IsGrammar (partsGrammar s r p)
+  unfolding partsGrammar
+  parts-grammar =
+      record {
+        a-terminal = symbols .a-terminal;
+        a-nonterminal = symbols .a-nonterminal;
+        few-symbols = symbols .few;
+        start-is = record { above = symbols .start-above; below = symbols .start-below };
+        few-rules = rw (rules-count (byte r 0) (drop 1 r)) (rules .few);
+        left-is = λ h l. record { above = rule-right h l .left-above; below = rule-right h l .left-below };
+        few-members = λ h l. rule-right h l .few;
+        members-are = λ h k l. rule-right h l .below k;
+        members-ascend = λ h l. rule-right h l .ascend;
+        unlike =
+            λ h k l m e.
+            rules-unlike (rules .records) h k l (below-count k m) (sym (rule-is h (omega arith)) ∙ (e ∙ rule-is k m));
+        order = order;
+      }
+
+-- An admitted image means a grammar.
+pub image-grammar : (b : List ℕ) → imageFault b .number ≡ 0 → IsGrammar (grammarOf b)
+unfolding grammarOf partsGrammar
+image-grammar b h =
+    let a = admitted b h in
+    parts-grammar (body b 0) (body b 1) (body b 2) (symbols-right (body b 0) (a .symbols)) (rules-right (imageTerminals b) (imageSymbols b) (body b 1) (a .rules))
+    (closed-order (imagePairs b) (a .closed))

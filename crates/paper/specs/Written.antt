@@ -1,0 +1,47 @@
+-- The image of a grammar, written out from its parts: document 01, "The grammar image", read the other way.
+-- Assumes nothing.
+use mathlib.Core.List.{List, [], _∷_, _++_}
+use Prim.Native.Nat.{ℕ, _+_, _/_, _%_}
+use lib.ListN.{length}
+use Rattle.paper.specs.Grammar.{Rule}
+use Rattle.paper.specs.Image.{Pair}
+
+-- 01: "each of these two 2 bytes, high byte first"
+abbrev pub highLow : ℕ → List ℕ
+highLow n = n / 256 ∷ n % 256 ∷ []
+
+-- 01: "entries of 5 bytes .. : kind, offset and length"
+abbrev pub entryBytes : (kind offset extent : ℕ) → List ℕ
+entryBytes kind offset extent = kind ∷ (highLow offset ++ highLow extent)
+
+-- 01: "Symbols, exactly 3 bytes: T, N, start symbol"
+abbrev pub symbolsBody : (terminals nonterminals start : ℕ) → List ℕ
+symbolsBody terminals nonterminals start = terminals ∷ nonterminals ∷ start ∷ []
+
+-- 01: "per rule the left symbol, the number of members, the members"
+abbrev pub ruleBytes : Rule → List ℕ
+ruleBytes rule = rule .left ∷ length (rule .members) ∷ rule .members
+
+unfoldable pub rulesBytes : List Rule → List ℕ
+rulesBytes [] = []
+rulesBytes (rule ∷ rules) = ruleBytes rule ++ rulesBytes rules
+
+-- 01: "Rules: a count, then per rule .."
+abbrev pub rulesBody : List Rule → List ℕ
+rulesBody rules = length rules ∷ rulesBytes rules
+
+-- 01: "Order: pairs of bytes, earlier symbol first"
+unfoldable pub orderBody : List Pair → List ℕ
+orderBody [] = []
+orderBody (pair ∷ pairs) = pair .earlier ∷ pair .later ∷ orderBody pairs
+
+-- "Contents first, then bodies": the contents of three bodies of these lengths
+abbrev pub contentsBytes : (first second third : ℕ) → List ℕ
+contentsBytes first second third = 1 ∷ 3 ∷ (entryBytes 1 17 first ++ (entryBytes 2 (17 + first) second ++ entryBytes 3 (17 + first + second) third))
+
+abbrev pub imageBytes : (first second third : List ℕ) → List ℕ
+imageBytes first second third = contentsBytes (length first) (length second) (length third) ++ (first ++ (second ++ third))
+
+-- The image of these parts.
+unfoldable pub written : (terminals nonterminals start : ℕ) → List Rule → List Pair → List ℕ
+written terminals nonterminals start rules pairs = imageBytes (symbolsBody terminals nonterminals start) (rulesBody rules) (orderBody pairs)
