@@ -6,14 +6,17 @@ use mathlib.Core.List.{List, [], _∷_, _++_}
 use Prim.Native.Nat.{ℕ, zero, suc, _+_, _*_, _≤_, _<_}
 use native.Mathlib.Omega.{arith}
 use lib.Dec.{eqb, leb, ltb}
-use lib.ListN.{length, getD, take, drop, length-take, length-drop}
-use borrow.Author.Tests.{eqb-true, leb-true, ltb-true}
+use lib.ListN.{length, getD, drop, length-drop, List·getD-eq-default}
+use lib.Seq.{length-take-le, getD-take, getD-drop}
+use borrow.Author.Tests.{eqb-true, leb-true, ltb-true, ltb-false}
 use Rattle.paper.specs.Grammar.{Rule, Grammar, ruleCount, ruleAt, IsNonterminal, StrictPartialOrder, IsGrammar}
-use Rattle.paper.specs.Image.{every, byte, twoBytes, kind, offset, extent, body, contentsRight, symbolsRight, rulesFault, pairFault, closingFault, Spot, sound, at}
+use Rattle.paper.specs.Image.{byte, twoBytes, kind, offset, extent, body, contentsRight, symbolsRight, rulesFault, pairFault, closingFault, Spot, sound, at}
 use Rattle.paper.specs.Image.{Fault, refuse, wrongIf, imageTerminals, imageSymbols, imagePairs, imageFault, grammarOf, house, pairsOf, rulesOf, ruleOf, paired}
+use Rattle.paper.specs.Image.{recordFault, recordRight, ascends, allBelow, recordBefore, chained}
 use Rattle.paper.specs.Records.{recordAt}
+use Rattle.paper.specs.Written.{AreBytes}
 use Rattle.paper.proofs.Records.{rules-count, rules-at, RightRule, RightRules, record-is, rules-right, rules-unlike, members-count}
-use Rattle.paper.proofs.Order.{closed-order}
+use Rattle.paper.proofs.Order.{written-cases, closed-order}
 
 -- The five tests that an image passes.
 pub record Admitted (b : List ℕ) : Type 0 where
@@ -125,3 +128,70 @@ image-grammar b h =
     let a = admitted b h in
     parts-grammar (body b 0) (body b 1) (body b 2) (symbols-right (body b 0) (a .symbols)) (rules-right (imageTerminals b) (imageSymbols b) (body b 1) (a .rules))
     (closed-order (imagePairs b) (a .closed))
+
+-- Rules and bodies by place.
+
+pub image-count : (b : List ℕ) → ruleCount (grammarOf b) ≡ byte (body b 1) 0
+unfolding grammarOf
+image-count b = rules-count (byte (body b 1) 0) (drop 1 (body b 1))
+
+-- rule h is the one that record h of the rules body means
+pub image-rule : (b : List ℕ) (h : ℕ) → h < byte (body b 1) 0 → ruleAt (grammarOf b) h ≡ ruleOf (recordAt h (drop 1 (body b 1)))
+unfolding grammarOf
+image-rule b h l = rules-at (byte (body b 1) 0) h (drop 1 (body b 1)) (record { left = 0; members = [] }) l
+
+-- each body lies inside the image
+pub body-inside : (b : List ℕ) → RightContents b → (k : ℕ) → k < 3 → offset b k + extent b k ≤ length b
+body-inside b c zero l = omega arith
+body-inside b c (suc zero) l = omega arith
+body-inside b c (suc (suc zero)) l = omega arith
+body-inside b c (suc (suc (suc k))) l = absurd (let z : ⊥ = omega arith in z)
+
+pub body-length : (b : List ℕ) → RightContents b → (k : ℕ) → k < 3 → length (body b k) ≡ extent b k
+body-length b c k l = length-take-le (extent b k) (drop (offset b k) b) (omega (arith, length-drop (offset b k) b, body-inside b c k l))
+
+pub body-byte : (b : List ℕ) (k i : ℕ) → i < extent b k → byte (body b k) i ≡ byte b (offset b k + i)
+body-byte b k i l = getD-take (extent b k) (drop (offset b k) b) i 0 l ∙ getD-drop (offset b k) b i 0
+
+-- past the end there is a byte too, 0
+pub byte-below : (b : List ℕ) → AreBytes b → (k : ℕ) → byte b k < 256
+byte-below b h k = go (ltb k (length b)) refl
+  where
+    go : (t : Bool) → ltb k (length b) ≡ t → byte b k < 256
+    go true e = h .below k (ltb-true k (length b) e)
+    go false e = rw (List·getD-eq-default b 0 {n = k} (ltb-false k (length b) e)) (omega arith)
+
+pub two-bytes-below : (b : List ℕ) → AreBytes b → (k : ℕ) → twoBytes b k < 65536
+two-bytes-below b h k = omega (arith, byte-below b h k, byte-below b h (k + 1))
+
+-- offset and length of the last body are two bytes each
+pub contents-length : (b : List ℕ) → AreBytes b → RightContents b → length b ≤ 131070
+contents-length b h c = omega (arith, c .ends, two-bytes-below b h (3 + 5 * 2), two-bytes-below b h (5 + 5 * 2))
+
+-- The house grammar.
+
+pub house-admitted : imageFault house .number ≡ 0
+unfolding imageFault contentsRight symbolsRight rulesFault recordFault recordRight ascends allBelow recordBefore pairFault pairsOf closingFault chained
+house-admitted = refl
+
+-- 01: "4 plate = {5,6}, 5 rating = {0,1,2}, 6 serial = {1,3}; 1 precedes 2."
+pub record HouseGrammar (g : Grammar) : Type 0 where
+  pub terminals-are : g .terminals ≡ 4
+  pub nonterminals-are : g .nonterminals ≡ 3
+  pub start-is : g .start ≡ 4
+  pub rules-are : g .rules ≡ record { left = 4; members = 5 ∷ 6 ∷ [] } ∷ record { left = 5; members = 0 ∷ 1 ∷ 2 ∷ [] } ∷ record { left = 6; members = 1 ∷ 3 ∷ [] } ∷ []
+  pub value-before-unit : g .precedes 1 2 ≡ true
+  pub no-other : (a b : ℕ) → g .precedes a b ≡ true → (a ≡ 1) × (b ≡ 2)
+
+-- The house image means it.
+pub house-means : HouseGrammar (grammarOf house)
+unfolding grammarOf rulesOf pairsOf paired
+house-means =
+    record {
+      terminals-are = refl;
+      nonterminals-are = refl;
+      start-is = refl;
+      rules-are = refl;
+      value-before-unit = refl;
+      no-other = λ a b h. written-cases (record { earlier = 1; later = 2 }) [] a b h (λ e f. (sym e, sym f)) (λ n. absurd (let z : _≡_ {A = ℕ} 0 1 = cc in let l : ⊥ = omega arith in l));
+    }

@@ -16,7 +16,7 @@ use Rattle.paper.proofs.Records.{goes-on}
 -- The closing of the order.
 
 -- a pair is written first or among the others
-written-cases : {P : Type 0} (p : Pair) (more : List Pair) (a b : ℕ) → paired (p ∷ more) a b ≡ true → (p .earlier ≡ a → p .later ≡ b → P) → (paired more a b ≡ true → P) → P
+pub written-cases : {P : Type 0} (p : Pair) (more : List Pair) (a b : ℕ) → paired (p ∷ more) a b ≡ true → (p .earlier ≡ a → p .later ≡ b → P) → (paired more a b ≡ true → P) → P
 unfolding paired
 written-cases {P} p more a b h here there = go (eqb (p .earlier) a) refl (eqb (p .later) b) refl
   where

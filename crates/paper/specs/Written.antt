@@ -1,10 +1,14 @@
 -- The image of a grammar, written out from its parts: document 01, "The grammar image", read the other way.
 -- Assumes nothing.
 use mathlib.Core.List.{List, [], _∷_, _++_}
-use Prim.Native.Nat.{ℕ, _+_, _/_, _%_}
-use lib.ListN.{length}
+use Prim.Native.Nat.{ℕ, _+_, _/_, _%_, _<_}
+use lib.ListN.{length, getD}
 use Rattle.paper.specs.Grammar.{Rule}
 use Rattle.paper.specs.Image.{Pair}
+
+-- each number of the list is a byte
+pub record AreBytes (b : List ℕ) : Type 0 where
+  pub below : (k : ℕ) → k < length b → getD b k 0 < 256
 
 -- 01: "each of these two 2 bytes, high byte first"
 abbrev pub highLow : ℕ → List ℕ
