@@ -22,3 +22,4 @@ pub mod Writing
 pub mod Records
 pub mod Order
 pub mod Image
+pub mod Written

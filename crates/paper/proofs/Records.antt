@@ -14,7 +14,7 @@ use Rattle.paper.specs.Multiset.{Ascending}
 use Rattle.paper.specs.Grammar.{Rule}
 use Rattle.paper.specs.Image.{every, byte, allBelow, ascends, recordBefore, recordSize, recordOf, ruleOf, recordRight, Spot, sound, at, recordFault, rulesFault, rulesOf}
 use Rattle.paper.specs.Records.{recordAt, recordPlace}
-use Rattle.paper.specs.Written.{ruleBytes, rulesBytes}
+use Rattle.paper.specs.Written.{ruleBytes}
 
 -- where nothing is at fault, the test holds and the rest is sound
 pub goes-on : (t : Bool) (k : ℕ) (next : Spot) → elim t as (λ x. Spot) [ true ↦ next | false ↦ at k ] ≡ sound → (t ≡ true) × (next ≡ sound)
@@ -201,6 +201,18 @@ records-step terminals symbols more last r right before ih = record { right = ea
     pairs : (h : ℕ) → suc h < suc more → recordBefore (recordOf (recordAt h r)) (recordOf (recordAt (suc h) r)) ≡ true
     pairs zero l = ih .first (omega arith)
     pairs (suc h) l = ih .next h (omega arith)
+
+-- what follows the first record is a sound run too
+pub records-tail : (terminals symbols more : ℕ) (last r : List ℕ) → RightRecords terminals symbols (suc more) last r
+    → RightRecords terminals symbols more (recordOf r) (drop (recordSize r) r)
+unfolding recordAt
+records-tail terminals symbols more last r run =
+    record {
+      right = λ h l. run .right (suc h) (omega arith);
+      first = λ l. run .next 0 (omega arith);
+      next = λ h l. run .next (suc h) (omega arith);
+      filled = run .filled;
+    }
 
 record-goes-on : (terminals symbols more k : ℕ) (last r : List ℕ) → recordFault terminals symbols (suc more) k last r ≡ sound
     → ((recordRight terminals symbols r && recordBefore last (recordOf r)) ≡ true) × (recordFault terminals symbols more (suc k) (recordOf r) (drop (recordSize r) r) ≡ sound)
