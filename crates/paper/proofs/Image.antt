@@ -8,7 +8,7 @@ use native.Mathlib.Omega.{arith}
 use lib.Dec.{eqb, leb, ltb}
 use lib.ListN.{length, getD, drop, length-drop, List·getD-eq-default}
 use lib.Seq.{length-take-le, getD-take, getD-drop}
-use borrow.Author.Tests.{eqb-true, leb-true, ltb-true, ltb-false}
+use borrow.Author.Tests.{eqb-true, eq-eqb, le-leb, lt-ltb, leb-true, ltb-true, ltb-false}
 use Rattle.paper.specs.Grammar.{Rule, Grammar, ruleCount, ruleAt, IsNonterminal, StrictPartialOrder, IsGrammar}
 use Rattle.paper.specs.Image.{byte, twoBytes, kind, offset, extent, body, contentsRight, symbolsRight, rulesFault, pairFault, closingFault, Spot, sound, at}
 use Rattle.paper.specs.Image.{Fault, refuse, wrongIf, imageTerminals, imageSymbols, imagePairs, imageFault, grammarOf, house, pairsOf, rulesOf, ruleOf, paired}
@@ -48,6 +48,18 @@ pub symbols-right : (s : List ℕ) → symbolsRight s ≡ true → RightSymbols 
 unfolding symbolsRight
 symbols-right s h = let k = simp and-eq-true-iff at h in omega (arith, eqb-true, leb-true, ltb-true)
 
+pub symbols-check : (s : List ℕ) → RightSymbols s → symbolsRight s ≡ true
+unfolding symbolsRight
+symbols-check s c =
+    simp and-eq-true-iff
+    (eq-eqb (length s) 3 (c .size),
+    (le-leb 1 (byte s 0) (c .a-terminal),
+    (le-leb 1 (byte s 1) (c .a-nonterminal),
+    (le-leb (byte s 0 + byte s 1) 64 (c .few),
+    (le-leb (byte s 0) (byte s 2) (c .start-above),
+    (lt-ltb (byte s 2) (byte s 0 + byte s 1) (c .start-below),
+    refl))))))
+
 pub record RightContents (b : List ℕ) : Type 0 where
   pub size : 17 ≤ length b
   pub form : byte b 0 ≡ 1
@@ -63,6 +75,22 @@ pub record RightContents (b : List ℕ) : Type 0 where
 pub contents-right : (b : List ℕ) → contentsRight b ≡ true → RightContents b
 unfolding contentsRight
 contents-right b h = let k = simp and-eq-true-iff at h in omega (arith, eqb-true, leb-true)
+
+pub contents-check : (b : List ℕ) → RightContents b → contentsRight b ≡ true
+unfolding contentsRight
+contents-check b c =
+    simp and-eq-true-iff
+    (le-leb 17 (length b) (c .size),
+    (eq-eqb (byte b 0) 1 (c .form),
+    (eq-eqb (byte b 1) 3 (c .bodies),
+    (eq-eqb (kind b 0) 1 (c .kind-0),
+    (eq-eqb (kind b 1) 2 (c .kind-1),
+    (eq-eqb (kind b 2) 3 (c .kind-2),
+    (eq-eqb (offset b 0) 17 (c .offset-0),
+    (eq-eqb (offset b 1) (offset b 0 + extent b 0) (c .offset-1),
+    (eq-eqb (offset b 2) (offset b 1 + extent b 1) (c .offset-2),
+    (eq-eqb (length b) (offset b 2 + extent b 2) (c .ends),
+    refl))))))))))
 
 pub admitted : (b : List ℕ) → imageFault b .number ≡ 0 → Admitted b
 unfolding imageFault
@@ -86,7 +114,8 @@ admitted-number b a = rw (a .contents, a .symbols, a .rules, a .pairs, a .closed
 
 -- A grammar from three bodies that are right.
 
-partsGrammar : (s r p : List ℕ) → Grammar
+-- the grammar of a symbols body, a rules body and an order body
+unfoldable pub partsGrammar : (s r p : List ℕ) → Grammar
 partsGrammar s r p =
     record { terminals = byte s 0; nonterminals = byte s 1; start = byte s 2; rules = rulesOf (byte r 0) (drop 1 r); precedes = paired (pairsOf p) }
 
@@ -120,6 +149,11 @@ module _ (s r p : List ℕ) (symbols : RightSymbols s) (rules : RightRules (byte
             rules-unlike (rules .records) h k l (below-count k m) (sym (rule-is h (omega arith)) ∙ (e ∙ rule-is k m));
         order = order;
       }
+
+-- an image means the grammar of its bodies
+pub grammar-of-bodies : (b s r p : List ℕ) → body b 0 ≡ s → body b 1 ≡ r → body b 2 ≡ p → grammarOf b ≡ partsGrammar s r p
+unfolding grammarOf partsGrammar
+grammar-of-bodies b s r p e f g = λ i. partsGrammar (e i) (f i) (g i)
 
 -- An admitted image means a grammar.
 pub image-grammar : (b : List ℕ) → imageFault b .number ≡ 0 → IsGrammar (grammarOf b)

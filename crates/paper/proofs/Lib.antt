@@ -23,3 +23,4 @@ pub mod Records
 pub mod Order
 pub mod Image
 pub mod Written
+pub mod Admitted

@@ -11,6 +11,7 @@ use borrow.Author.Tests.{eqb-true, eqb-false, eq-eqb, leb-true, ltb-true, not-tr
 use Rattle.paper.specs.Multiset.{StrictlyAscending}
 use Rattle.paper.specs.Grammar.{StrictPartialOrder}
 use Rattle.paper.specs.Image.{byte, Spot, sound, at, Pair, pairsOf, pairFault, paired, chained, closingFault}
+use Rattle.paper.specs.Written.{pairKey}
 use Rattle.paper.proofs.Records.{goes-on}
 
 -- The closing of the order.
@@ -87,10 +88,6 @@ pair-at [] k none l = absurd (let z : ⊥ = omega arith in z)
 pair-at (a ∷ []) k none l = absurd (let z : ⊥ = omega arith in z)
 pair-at (a ∷ b ∷ s) zero none l = refl
 pair-at (a ∷ b ∷ s) (suc k) none l = pair-at s k none (omega arith) ∙ pair-further a b s k
-
--- a pair as a number of two bytes
-abbrev pub pairKey : Pair → ℕ
-pairKey p = p .earlier * 256 + p .later
 
 -- What a sound order body says: it has whole pairs of symbols, and they ascend strictly from `least` on.
 pub record RightPairs (symbols least : ℕ) (s : List ℕ) : Type 0 where

@@ -1,10 +1,13 @@
 -- The image of a grammar, written out from its parts: document 01, "The grammar image", read the other way.
 -- Assumes nothing.
-use mathlib.Core.List.{List, [], _∷_, _++_}
-use Prim.Native.Nat.{ℕ, _+_, _/_, _%_, _<_}
+use mathlib.Core.Path.{_≡_}
+use mathlib.Core.Bool.{true}
+use mathlib.Core.List.{List, [], _∷_, _++_, map}
+use Prim.Native.Nat.{ℕ, suc, _+_, _*_, _/_, _%_, _<_}
 use lib.ListN.{length, getD}
-use Rattle.paper.specs.Grammar.{Rule}
-use Rattle.paper.specs.Image.{Pair}
+use Rattle.paper.specs.Multiset.{StrictlyAscending}
+use Rattle.paper.specs.Grammar.{Rule, Grammar, ruleAt, ruleCount, symbols, IsGrammar}
+use Rattle.paper.specs.Image.{recordBefore, Pair, paired}
 
 -- each number of the list is a byte
 pub record AreBytes (b : List ℕ) : Type 0 where
@@ -49,3 +52,33 @@ imageBytes first second third = contentsBytes (length first) (length second) (le
 -- The image of these parts.
 unfoldable pub written : (terminals nonterminals start : ℕ) → List Rule → List Pair → List ℕ
 written terminals nonterminals start rules pairs = imageBytes (symbolsBody terminals nonterminals start) (rulesBody rules) (orderBody pairs)
+
+-- the grammar of these parts
+abbrev pub grammarWith : (terminals nonterminals start : ℕ) → List Rule → List Pair → Grammar
+grammarWith terminals nonterminals start rules pairs =
+    record { terminals = terminals; nonterminals = nonterminals; start = start; rules = rules; precedes = paired pairs }
+
+-- a pair as a number of two bytes
+abbrev pub pairKey : Pair → ℕ
+pairKey p = p .earlier * 256 + p .later
+
+-- 01: "Rules ascend strictly, compared byte by byte."
+pub record RulesAscend (g : Grammar) : Type 0 where
+  pub ascend : (h k : ℕ) → h < k → k < ruleCount g → recordBefore (ruleBytes (ruleAt g h)) (ruleBytes (ruleAt g k)) ≡ true
+
+-- every pair is of symbols of the grammar
+pub record PairsOfSymbols (g : Grammar) : Type 0 where
+  pub below : (a b : ℕ) → g .precedes a b ≡ true → (a < symbols g) × (b < symbols g)
+
+-- The bytes are the image of some grammar, its rules and pairs ascending.
+pub record IsWritten (b : List ℕ) : Type 0 where
+  pub terminals : ℕ
+  pub nonterminals : ℕ
+  pub start : ℕ
+  pub rules : List Rule
+  pub pairs : List Pair
+  pub is-grammar : IsGrammar (grammarWith terminals nonterminals start rules pairs)
+  pub rules-ascend : RulesAscend (grammarWith terminals nonterminals start rules pairs)
+  pub pairs-are : PairsOfSymbols (grammarWith terminals nonterminals start rules pairs)
+  pub pairs-ascend : StrictlyAscending (map pairKey pairs)
+  pub bytes-are : b ≡ written terminals nonterminals start rules pairs
