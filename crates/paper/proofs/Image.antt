@@ -15,8 +15,8 @@ use Rattle.paper.specs.Image.{Fault, refuse, wrongIf, imageTerminals, im
 use Rattle.paper.specs.Image.{recordFault, recordRight, ascends, allBelow, recordBefore, chained}
 use Rattle.paper.specs.Records.{recordAt}
 use Rattle.paper.specs.Written.{AreBytes}
-use Rattle.paper.proofs.Records.{rules-count, rules-at, RightRule, RightRules, record-is, rules-right, rules-unlike, members-count}
-use Rattle.paper.proofs.Order.{written-cases, closed-order}
+use Rattle.paper.proofs.Records.{rules-count, rules-at, RightRule, RightRules, record-is, rules-right, rules-unlike, records-fill, place-below}
+use Rattle.paper.proofs.Order.{written-cases, closed-order, pairs-right, pairs-few}
 
 -- The five tests that an image passes.
 pub record Admitted (b : List ℕ) : Type 0 where
@@ -201,6 +201,22 @@ two-bytes-below b h k = omega (arith, byte-below b h k, byte-below b h (k + 1))
 -- offset and length of the last body are two bytes each
 pub contents-length : (b : List ℕ) → AreBytes b → RightContents b → length b ≤ 131070
 contents-length b h c = omega (arith, c .ends, two-bytes-below b h (3 + 5 * 2), two-bytes-below b h (5 + 5 * 2))
+
+-- contents, symbols, 96 rules of 10 bytes and 4,096 pairs
+pub image-length : (b : List ℕ) → Admitted b → length b ≤ 17 + 3 + (1 + 10 * 96) + 2 * 4096
+image-length b a =
+    let c = contents-right b (a .contents) in
+    let s = symbols-right (body b 0) (a .symbols) in
+    let r = rules-right (imageTerminals b) (imageSymbols b) (body b 1) (a .rules) in
+    let x : extent b 0 ≡ 3 = sym (body-length b c 0 (omega arith)) ∙ s .size in
+    let y : extent b 1 ≤ 1 + 10 * 96 =
+            omega
+            (arith, body-length b c 1 (omega arith), r .counted, r .few, length-drop 1 (body b 1), records-fill (r .records), place-below (r .records) (byte (body b 1) 0) (omega arith))
+    in
+    let z : extent b 2 ≤ 2 * 4096 =
+            omega (arith, body-length b c 2 (omega arith), pairs-right (imageSymbols b) 0 0 (body b 2) (a .pairs) .size, pairs-few (imageSymbols b) 0 (body b 2) (s .few) (a .pairs))
+    in
+    omega (arith, c .ends, c .offset-0, c .offset-1, c .offset-2)
 
 -- The house grammar.
 

@@ -142,3 +142,27 @@ pairs-right symbols k least (a ∷ []) h = absurd (let z : _≡_ {A = ℕ} 0 1 =
 pairs-right symbols k least (a ∷ b ∷ s) h =
     let e = pair-goes-on symbols k least a b s h in
     pairs-step symbols least a b s (e .0) (e .1) (e .2) (pairs-right symbols (suc k) (suc (a * 256 + b)) s (e .3))
+
+-- How many pairs there can be.
+
+ranks-ascend : (a b c d : ℕ) → b < 64 → d < 64 → c * 256 + d < a * 256 + b → c * 64 + d < a * 64 + b
+ranks-ascend a b c d l m h = omega arith
+
+-- behind the pair c, d
+pairs-left : (symbols k c d : ℕ) (s : List ℕ) → symbols ≤ 64 → c < symbols → d < symbols → pairFault symbols k (suc (c * 256 + d)) s ≡ sound
+    → length (pairsOf s) + (c * 64 + d) < 4096
+unfolding pairsOf pairFault
+pairs-left symbols k c d [] few l m h = omega arith
+pairs-left symbols k c d (a ∷ []) few l m h = absurd (let z : _≡_ {A = ℕ} 0 1 = cc in let l : ⊥ = omega arith in l)
+pairs-left symbols k c d (a ∷ b ∷ s) few l m h =
+    let e = pair-goes-on symbols k (suc (c * 256 + d)) a b s h in
+    omega (arith, ranks-ascend a b c d (omega arith) (omega arith) (e .2), pairs-left symbols (suc k) a b s few (e .0) (e .1) (e .3))
+
+-- 64 symbols have 4,096 pairs at the most
+pub pairs-few : (symbols k : ℕ) (s : List ℕ) → symbols ≤ 64 → pairFault symbols k 0 s ≡ sound → length (pairsOf s) ≤ 4096
+unfolding pairsOf pairFault
+pairs-few symbols k [] few h = omega arith
+pairs-few symbols k (a ∷ []) few h = omega arith
+pairs-few symbols k (a ∷ b ∷ s) few h =
+    let e = pair-goes-on symbols k 0 a b s h in
+    omega (arith, pairs-left symbols (suc k) a b s few (e .0) (e .1) (e .3))

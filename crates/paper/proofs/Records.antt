@@ -4,7 +4,7 @@ use mathlib.Core.Path.{_≡_, refl, sym, _∙_, ap}
 use mathlib.Core.Bool.{Bool, true, false, _&&_, _||_, cond, and-eq-true-iff}
 use mathlib.Core.List.{List, [], _∷_, _++_}
 use mathlib.Core.Logic.{_⊎_, inl, inr}
-use Prim.Native.Nat.{ℕ, zero, suc, _+_, _-_, _≤_, _<_}
+use Prim.Native.Nat.{ℕ, zero, suc, _+_, _-_, _*_, _≤_, _<_}
 use native.Mathlib.Omega.{arith}
 use lib.Dec.{eqb, leb, ltb}
 use lib.ListN.{length, getD, take, drop, length-drop}
@@ -267,6 +267,14 @@ module _ {terminals symbols more : ℕ} {last r : List ℕ} (run : RightRecords 
       let e : length (recordAt more r) ≡ length r - recordPlace more r = ap length (record-place more r) ∙ length-drop (recordPlace more r) r in
       let f = run .filled in
       omega (arith, place-inside more (omega arith))
+
+  -- a record has 10 bytes at the most
+  pub place-below : (h : ℕ) → h ≤ more → recordPlace h r ≤ 10 * h
+  unfolding recordPlace
+  place-below zero l = omega arith
+  place-below (suc h) l =
+      let e = record-is h l in
+      omega (arith, place-below h (omega arith), place-after h r, members-count (recordAt h r) (e .fits), e .rule .few)
 
   -- an earlier record is before a later one
   pub record-before : (h k : ℕ) → h < k → k < more → recordBefore (recordOf (recordAt h r)) (recordOf (recordAt k r)) ≡ true
