@@ -4,22 +4,22 @@ use mathlib.Core.Path.{_≡_, refl, sym, _∙_, ap, subst, subst⁻¹}
 use mathlib.Core.Bool.{Bool, true, false, not, _&&_, _||_, and-eq-true-iff, or-true}
 use mathlib.Core.Logic.{_↔_}
 use mathlib.Core.List.{List, [], _∷_, _++_, map}
-use Prim.Native.Nat.{ℕ, zero, suc, _+_, _*_, _/_, _%_, _≤_, _<_}
+use Prim.Native.Nat.{ℕ, suc, _+_, _*_, _/_, _%_, _≤_, _<_}
 use native.Mathlib.Omega.{arith}
 use lib.Dec.{eqb, leb, ltb}
 use lib.ListN.{length, getD, take, drop, length-append, length-map}
 use lib.Seq.{drop-drop, take-add, take-append-seam, drop-append-seam, take-length}
 use borrow.Author.Tests.{eqb-true, eq-eqb, ne-eqb, le-leb, lt-ltb}
-use Rattle.paper.specs.Multiset.{Ascending, StrictlyAscending}
-use Rattle.paper.specs.Grammar.{Rule, Grammar, ruleCount, ruleAt, StrictPartialOrder, IsGrammar}
-use Rattle.paper.specs.Image.{byte, twoBytes, kind, offset, extent, body, contentsRight, symbolsRight, allBelow, ascends, recordBefore, recordSize, recordOf, ruleOf, recordRight}
+use Rattle.paper.specs.Multiset.{StrictlyAscending}
+use Rattle.paper.specs.Grammar.{Rule, ruleCount, ruleAt, StrictPartialOrder, IsGrammar}
+use Rattle.paper.specs.Image.{byte, offset, extent, body, contentsRight, symbolsRight, allBelow, ascends, recordBefore, recordSize, recordOf, ruleOf, recordRight}
 use Rattle.paper.specs.Image.{Spot, sound, at, recordFault, rulesFault, rulesOf, Pair, pairsOf, pairFault, paired, chained, closingFault, imageFault, grammarOf, imageTerminals, imageSymbols, imagePairs}
 use Rattle.paper.specs.Records.{recordAt}
 use Rattle.paper.specs.Written.{AreBytes, ruleBytes, rulesBytes, rulesBody, orderBody, symbolsBody, imageBytes, written, grammarWith, pairKey, RulesAscend, PairsOfSymbols, IsWritten}
-use Rattle.paper.proofs.Records.{RightRule, RightRecords, record-bytes, record-is, record-before, rules-right}
-use Rattle.paper.proofs.Order.{pairs-right}
+use Rattle.paper.proofs.Records.{spot-on, record-on, RightRule, RightRecords, record-bytes, record-is, record-before, rules-right}
+use Rattle.paper.proofs.Order.{pair-on, closing-on, pairs-right}
 use Rattle.paper.proofs.Written.{image-written}
-use Rattle.paper.proofs.Image.{Admitted, admitted, admitted-number, RightSymbols, symbols-check, RightContents, contents-check, partsGrammar, grammar-of-bodies, image-grammar, image-rule, image-count}
+use Rattle.paper.proofs.Image.{Admitted, admitted, admitted-number, symbols-check, RightContents, contents-check, partsGrammar, grammar-of-bodies, image-grammar, image-rule, image-count}
 
 -- The record of a rule, with anything behind it.
 
@@ -113,10 +113,6 @@ written-means terminals nonterminals start rules pairs =
 
 -- The rules body is sound.
 
-sound-on : (t : Bool) (k : ℕ) (next : Spot) → t ≡ true → next ≡ sound → elim t as (λ x. Spot) [ true ↦ next | false ↦ at k ] ≡ sound
-sound-on true k next e f = f
-sound-on false k next e f = absurd (let z : _≡_ {A = ℕ} 0 1 = cc in let l : ⊥ = omega arith in l)
-
 ascends-check : (least : ℕ) (s : List ℕ) → ((k : ℕ) → k < length s → least ≤ getD s k 0) → ((i j : ℕ) → i < j → j < length s → getD s i 0 ≤ getD s j 0) → ascends least s ≡ true
 unfolding ascends
 ascends-check least [] from up = refl
@@ -148,13 +144,10 @@ record-check terminals symbols rule rest right =
 
 record-sound : (terminals symbols more k : ℕ) (last : List ℕ) (rule : Rule) (rest : List ℕ) → RightRule terminals symbols rule → recordBefore last (ruleBytes rule) ≡ true
     → recordFault terminals symbols more (suc k) (ruleBytes rule) rest ≡ sound → recordFault terminals symbols (suc more) k last (ruleBytes rule ++ rest) ≡ sound
-unfolding recordFault
 record-sound terminals symbols more k last rule rest right before ih =
-    let r = ruleBytes rule ++ rest in
-    sound-on (recordRight terminals symbols r && recordBefore last (recordOf r)) k (recordFault terminals symbols more (suc k) (recordOf r) (drop (recordSize r) r))
-    (and-eq-true-iff (recordRight terminals symbols r) (recordBefore last (recordOf r)) .1
-    (record-check terminals symbols rule rest right, subst⁻¹ (λ (x : List ℕ). recordBefore last x ≡ true) (record-front rule rest) before))
-    ((λ i. recordFault terminals symbols more (suc k) (record-front rule rest i) (record-rest rule rest i)) ∙ ih)
+    record-on terminals symbols more k last (ruleBytes rule ++ rest) (record-check terminals symbols rule rest right)
+    (subst⁻¹ (λ (x : List ℕ). recordBefore last x ≡ true) (record-front rule rest) before)
+    ∙ ((λ i. recordFault terminals symbols more (suc k) (record-front rule rest i) (record-rest rule rest i)) ∙ ih)
 
 -- past the last there is no rule
 abbrev none : Rule
@@ -178,9 +171,9 @@ rules-sound : (terminals symbols : ℕ) (rules : List Rule) → length rules ≤
     → rulesFault terminals symbols (rulesBody rules) ≡ sound
 unfolding rulesFault recordBefore
 rules-sound terminals symbols rules few right up =
-    sound-on (leb 1 (length (rulesBody rules)) && leb (length rules) 96) 0 (recordFault terminals symbols (length rules) 0 [] (rulesBytes rules))
+    spot-on (leb 1 (length (rulesBody rules)) && leb (length rules) 96) 0 (recordFault terminals symbols (length rules) 0 [] (rulesBytes rules))
     (and-eq-true-iff (leb 1 (length (rulesBody rules))) (leb (length rules) 96) .1 (le-leb 1 (length (rulesBody rules)) (omega arith), le-leb (length rules) 96 few))
-    (records-sound terminals symbols 0 [] rules right (λ l. refl) up)
+    ∙ records-sound terminals symbols 0 [] rules right (λ l. refl) up
 
 -- The order body is sound.
 
@@ -201,12 +194,9 @@ unfolding orderBody pairFault
 pairs-sound symbols k least [] below from up = refl
 pairs-sound symbols k least (p ∷ pairs) below from up =
     let s = below (p .earlier) (p .later) (paired-here p pairs) in
-    sound-on (ltb (p .earlier) symbols && (ltb (p .later) symbols && leb least (pairKey p))) k (pairFault symbols (suc k) (suc (pairKey p)) (orderBody pairs))
-    (and-eq-true-iff (ltb (p .earlier) symbols) (ltb (p .later) symbols && leb least (pairKey p)) .1
-    (lt-ltb (p .earlier) symbols (s .0),
-    and-eq-true-iff (ltb (p .later) symbols) (leb least (pairKey p)) .1 (lt-ltb (p .later) symbols (s .1), le-leb least (pairKey p) (from 0 (omega arith)))))
-    (pairs-sound symbols (suc k) (suc (pairKey p)) pairs (λ a b h. below a b (paired-there p pairs a b h)) (λ i l. up 0 (suc i) (omega arith) (omega arith))
-    (λ i j l m. up (suc i) (suc j) (omega arith) (omega arith)))
+    pair-on symbols k least (p .earlier) (p .later) (orderBody pairs) (s .0) (s .1) (from 0 (omega arith))
+    ∙ pairs-sound symbols (suc k) (suc (pairKey p)) pairs (λ a b h. below a b (paired-there p pairs a b h)) (λ i l. up 0 (suc i) (omega arith) (omega arith))
+    (λ i j l m. up (suc i) (suc j) (omega arith) (omega arith))
 
 -- The order is closed.
 
@@ -225,25 +215,20 @@ module _ (pairs : List Pair) (order : StrictPartialOrder (paired pairs)) where
           rw (e, order .transitive a b (q .later) w g)
       go false e = rw e
 
-  apart : (p : Pair) → paired pairs (p .earlier) (p .later) ≡ true → not (eqb (p .earlier) (p .later)) ≡ true
-  apart p w = rw (ne-eqb (p .earlier) (p .later) differ)
-    where
-      differ : p .earlier ≡ p .later → ⊥
-      differ e =
-          let f = order .irreflexive (p .later) in
-          let g = subst (λ (x : ℕ). paired pairs x (p .later) ≡ true) e w in
-          let z : _≡_ {A = ℕ} 0 1 = cc in
-          let l : ⊥ = omega arith in l
+  apart : (a b : ℕ) → paired pairs a b ≡ true → a ≡ b → ⊥
+  apart a b w e =
+      let f = order .irreflexive b in
+      let g = subst (λ (x : ℕ). paired pairs x b ≡ true) e w in
+      let z : _≡_ {A = ℕ} 0 1 = cc in
+      let l : ⊥ = omega arith in l
 
   closing-sound : (k : ℕ) (more : List Pair) → ((c d : ℕ) → paired more c d ≡ true → paired pairs c d ≡ true) → closingFault pairs k more ≡ sound
   unfolding closingFault
   closing-sound k [] among = refl
   closing-sound k (p ∷ more) among =
       let w = among (p .earlier) (p .later) (paired-here p more) in
-      sound-on (not (eqb (p .earlier) (p .later)) && chained pairs (p .earlier) (p .later) pairs) k (closingFault pairs (suc k) more)
-      (and-eq-true-iff (not (eqb (p .earlier) (p .later))) (chained pairs (p .earlier) (p .later) pairs) .1
-      (apart p w, chained-on (p .earlier) (p .later) w pairs (λ c d h. h)))
-      (closing-sound (suc k) more (λ c d h. among c d (paired-there p more c d h)))
+      closing-on pairs k p more (apart (p .earlier) (p .later) w) (chained-on (p .earlier) (p .later) w pairs (λ c d h. h))
+      ∙ closing-sound (suc k) more (λ c d h. among c d (paired-there p more c d h))
 
 -- The image check admits what is written of a grammar.
 

@@ -1,15 +1,15 @@
 -- An admitted image means a grammar: what each of the refusals 10 to 14 shuts out.
 -- Assumes nothing.
-use mathlib.Core.Path.{_≡_, refl, sym, _∙_, ap, subst⁻¹}
-use mathlib.Core.Bool.{Bool, true, false, not, _&&_, _||_, cond, and-eq-true-iff}
-use mathlib.Core.List.{List, [], _∷_, _++_}
+use mathlib.Core.Path.{_≡_, refl, sym, _∙_, subst⁻¹}
+use mathlib.Core.Bool.{Bool, true, false, and-eq-true-iff}
+use mathlib.Core.List.{List, [], _∷_}
 use Prim.Native.Nat.{ℕ, zero, suc, _+_, _*_, _≤_, _<_}
 use native.Mathlib.Omega.{arith}
-use lib.Dec.{eqb, leb, ltb}
-use lib.ListN.{length, getD, drop, length-drop, List·getD-eq-default}
+use lib.Dec.{ltb}
+use lib.ListN.{length, drop, length-drop, List·getD-eq-default}
 use lib.Seq.{length-take-le, getD-take, getD-drop}
 use borrow.Author.Tests.{eqb-true, eq-eqb, le-leb, lt-ltb, leb-true, ltb-true, ltb-false}
-use Rattle.paper.specs.Grammar.{Rule, Grammar, ruleCount, ruleAt, IsNonterminal, StrictPartialOrder, IsGrammar}
+use Rattle.paper.specs.Grammar.{Grammar, ruleCount, ruleAt, StrictPartialOrder, IsGrammar}
 use Rattle.paper.specs.Image.{byte, twoBytes, kind, offset, extent, body, contentsRight, symbolsRight, rulesFault, pairFault, closingFault, Spot, sound, at}
 use Rattle.paper.specs.Image.{Fault, refuse, wrongIf, imageTerminals, imageSymbols, imagePairs, imageFault, grammarOf, house, pairsOf, rulesOf, ruleOf, paired}
 use Rattle.paper.specs.Image.{recordFault, recordRight, ascends, allBelow, recordBefore, chained}
@@ -35,6 +35,7 @@ right-is : (right : Bool) → wrongIf right ≡ sound → right ≡ true
 right-is true h = refl
 right-is false h = absurd (let z : _≡_ {A = ℕ} 0 1 = cc in let k : ⊥ = omega arith in k)
 
+-- What `symbolsRight` says.
 pub record RightSymbols (s : List ℕ) : Type 0 where
   pub size : length s ≡ 3
   pub a-terminal : 1 ≤ byte s 0
@@ -43,7 +44,7 @@ pub record RightSymbols (s : List ℕ) : Type 0 where
   pub start-above : byte s 0 ≤ byte s 2
   pub start-below : byte s 2 < byte s 0 + byte s 1
 
--- 11 is not the answer: the symbols body is as 01 says
+-- the test and what it says, both ways
 pub symbols-right : (s : List ℕ) → symbolsRight s ≡ true → RightSymbols s
 unfolding symbolsRight
 symbols-right s h = let k = simp and-eq-true-iff at h in omega (arith, eqb-true, leb-true, ltb-true)
@@ -60,6 +61,7 @@ symbols-check s c =
     (lt-ltb (byte s 2) (byte s 0 + byte s 1) (c .start-below),
     refl))))))
 
+-- What `contentsRight` says.
 pub record RightContents (b : List ℕ) : Type 0 where
   pub size : 17 ≤ length b
   pub form : byte b 0 ≡ 1
@@ -72,6 +74,7 @@ pub record RightContents (b : List ℕ) : Type 0 where
   pub offset-2 : offset b 2 ≡ offset b 1 + extent b 1
   pub ends : length b ≡ offset b 2 + extent b 2
 
+-- the test and what it says, both ways
 pub contents-right : (b : List ℕ) → contentsRight b ≡ true → RightContents b
 unfolding contentsRight
 contents-right b h = let k = simp and-eq-true-iff at h in omega (arith, eqb-true, leb-true)
@@ -92,6 +95,7 @@ contents-check b c =
     (eq-eqb (length b) (offset b 2 + extent b 2) (c .ends),
     refl))))))))))
 
+-- An image is admitted where it passes the five tests ..
 pub admitted : (b : List ℕ) → imageFault b .number ≡ 0 → Admitted b
 unfolding imageFault
 admitted b h =
@@ -108,9 +112,37 @@ admitted b h =
       closed = o .0;
     }
 
+-- .. and an image that passes them is admitted
 pub admitted-number : (b : List ℕ) → Admitted b → imageFault b .number ≡ 0
 unfolding imageFault
 admitted-number b a = rw (a .contents, a .symbols, a .rules, a .pairs, a .closed)
+
+-- Each refusal holds where its test fails and those before it do not.
+
+module _ (b : List ℕ) where
+  pub refused-contents : contentsRight b ≡ false → imageFault b ≡ record { number = 10; place = 0 }
+  unfolding imageFault
+  refused-contents h = rw h
+
+  module _ (contents : contentsRight b ≡ true) where
+    pub refused-symbols : symbolsRight (body b 0) ≡ false → imageFault b ≡ record { number = 11; place = 0 }
+    unfolding imageFault
+    refused-symbols h = rw (contents, h)
+
+    module _ (symbols : symbolsRight (body b 0) ≡ true) where
+      pub refused-rules : (k : ℕ) → rulesFault (imageTerminals b) (imageSymbols b) (body b 1) ≡ at k → imageFault b ≡ record { number = 12; place = k }
+      unfolding imageFault
+      refused-rules k h = rw (contents, symbols, h)
+
+      module _ (rules : rulesFault (imageTerminals b) (imageSymbols b) (body b 1) ≡ sound) where
+        pub refused-pairs : (k : ℕ) → pairFault (imageSymbols b) 0 0 (body b 2) ≡ at k → imageFault b ≡ record { number = 13; place = k }
+        unfolding imageFault
+        refused-pairs k h = rw (contents, symbols, rules, h)
+
+        pub refused-closing : (k : ℕ) → pairFault (imageSymbols b) 0 0 (body b 2) ≡ sound → closingFault (imagePairs b) 0 (imagePairs b) ≡ at k
+            → imageFault b ≡ record { number = 14; place = k }
+        unfolding imageFault
+        refused-closing k pairs h = rw (contents, symbols, rules, pairs, h)
 
 -- A grammar from three bodies that are right.
 
@@ -165,6 +197,7 @@ image-grammar b h =
 
 -- Rules and bodies by place.
 
+-- there are as many rules as the first byte of the rules body says
 pub image-count : (b : List ℕ) → ruleCount (grammarOf b) ≡ byte (body b 1) 0
 unfolding grammarOf
 image-count b = rules-count (byte (body b 1) 0) (drop 1 (body b 1))
@@ -181,13 +214,15 @@ body-inside b c (suc zero) l = omega arith
 body-inside b c (suc (suc zero)) l = omega arith
 body-inside b c (suc (suc (suc k))) l = absurd (let z : ⊥ = omega arith in z)
 
+-- and has the length that its entry tells
 pub body-length : (b : List ℕ) → RightContents b → (k : ℕ) → k < 3 → length (body b k) ≡ extent b k
 body-length b c k l = length-take-le (extent b k) (drop (offset b k) b) (omega (arith, length-drop (offset b k) b, body-inside b c k l))
 
+-- byte i of body k
 pub body-byte : (b : List ℕ) (k i : ℕ) → i < extent b k → byte (body b k) i ≡ byte b (offset b k + i)
 body-byte b k i l = getD-take (extent b k) (drop (offset b k) b) i 0 l ∙ getD-drop (offset b k) b i 0
 
--- past the end there is a byte too, 0
+-- a byte, and so is the 0 past the end
 pub byte-below : (b : List ℕ) → AreBytes b → (k : ℕ) → byte b k < 256
 byte-below b h k = go (ltb k (length b)) refl
   where
@@ -195,14 +230,15 @@ byte-below b h k = go (ltb k (length b)) refl
     go true e = h .below k (ltb-true k (length b) e)
     go false e = rw (List·getD-eq-default b 0 {n = k} (ltb-false k (length b) e)) (omega arith)
 
+-- an offset or a length is below 65,536
 pub two-bytes-below : (b : List ℕ) → AreBytes b → (k : ℕ) → twoBytes b k < 65536
 two-bytes-below b h k = omega (arith, byte-below b h k, byte-below b h (k + 1))
 
--- offset and length of the last body are two bytes each
+-- an image whose contents are right ends where the last offset and length say
 pub contents-length : (b : List ℕ) → AreBytes b → RightContents b → length b ≤ 131070
 contents-length b h c = omega (arith, c .ends, two-bytes-below b h (3 + 5 * 2), two-bytes-below b h (5 + 5 * 2))
 
--- contents, symbols, 96 rules of 10 bytes and 4,096 pairs
+-- an admitted image has contents, symbols, at most 96 rules of 10 bytes and 4,096 pairs
 pub image-length : (b : List ℕ) → Admitted b → length b ≤ 17 + 3 + (1 + 10 * 96) + 2 * 4096
 image-length b a =
     let c = contents-right b (a .contents) in
@@ -220,6 +256,7 @@ image-length b a =
 
 -- The house grammar.
 
+-- The house image is admitted.
 pub house-admitted : imageFault house .number ≡ 0
 unfolding imageFault contentsRight symbolsRight rulesFault recordFault recordRight ascends allBelow recordBefore pairFault pairsOf closingFault chained
 house-admitted = refl

@@ -1,18 +1,46 @@
 -- Laws of the order body: its pairs by number, and that the pairs of a closed list are a strict partial order.
 -- Assumes nothing.
-use mathlib.Core.Path.{_≡_, refl, sym, _∙_, ap}
+use mathlib.Core.Path.{_≡_, refl, _∙_}
 use mathlib.Core.Bool.{Bool, true, false, not, _&&_, _||_, and-eq-true-iff}
 use mathlib.Core.List.{List, [], _∷_, map}
 use Prim.Native.Nat.{ℕ, zero, suc, _+_, _*_, _≤_, _<_}
 use native.Mathlib.Omega.{arith}
 use lib.Dec.{eqb, leb, ltb}
 use lib.ListN.{length, getD, length-map}
-use borrow.Author.Tests.{eqb-true, eqb-false, eq-eqb, leb-true, ltb-true, not-true}
+use borrow.Author.Tests.{eqb-true, eqb-false, eq-eqb, ne-eqb, leb-true, le-leb, ltb-true, lt-ltb, not-true}
 use Rattle.paper.specs.Multiset.{StrictlyAscending}
 use Rattle.paper.specs.Grammar.{StrictPartialOrder}
-use Rattle.paper.specs.Image.{byte, Spot, sound, at, Pair, pairsOf, pairFault, paired, chained, closingFault}
+use Rattle.paper.specs.Image.{byte, sound, at, Pair, pairsOf, pairFault, paired, chained, closingFault}
 use Rattle.paper.specs.Written.{pairKey}
-use Rattle.paper.proofs.Records.{goes-on}
+use Rattle.paper.proofs.Records.{goes-on, spot-on, spot-here}
+
+-- One step of the search for a fault: on past a pair that is right, or no further.
+
+pub pair-on : (symbols k least a b : ℕ) (s : List ℕ) → a < symbols → b < symbols → least ≤ a * 256 + b
+    → pairFault symbols k least (a ∷ b ∷ s) ≡ pairFault symbols (suc k) (suc (a * 256 + b)) s
+unfolding pairFault
+pair-on symbols k least a b s l m h =
+    spot-on (ltb a symbols && (ltb b symbols && leb least (a * 256 + b))) k (pairFault symbols (suc k) (suc (a * 256 + b)) s)
+    (simp and-eq-true-iff (lt-ltb a symbols l, (lt-ltb b symbols m, le-leb least (a * 256 + b) h)))
+
+pub pair-stop : (symbols k least a b : ℕ) (s : List ℕ) → (ltb a symbols && (ltb b symbols && leb least (a * 256 + b))) ≡ false
+    → pairFault symbols k least (a ∷ b ∷ s) ≡ at k
+unfolding pairFault
+pair-stop symbols k least a b s wrong =
+    spot-here (ltb a symbols && (ltb b symbols && leb least (a * 256 + b))) k (pairFault symbols (suc k) (suc (a * 256 + b)) s) wrong
+
+pub closing-on : (pairs : List Pair) (k : ℕ) (p : Pair) (more : List Pair) → (p .earlier ≡ p .later → ⊥) → chained pairs (p .earlier) (p .later) pairs ≡ true
+    → closingFault pairs k (p ∷ more) ≡ closingFault pairs (suc k) more
+unfolding closingFault
+closing-on pairs k p more ne h =
+    spot-on (not (eqb (p .earlier) (p .later)) && chained pairs (p .earlier) (p .later) pairs) k (closingFault pairs (suc k) more)
+    (rw (ne-eqb (p .earlier) (p .later) ne, h))
+
+pub closing-stop : (pairs : List Pair) (k : ℕ) (p : Pair) (more : List Pair) → (not (eqb (p .earlier) (p .later)) && chained pairs (p .earlier) (p .later) pairs) ≡ false
+    → closingFault pairs k (p ∷ more) ≡ at k
+unfolding closingFault
+closing-stop pairs k p more wrong =
+    spot-here (not (eqb (p .earlier) (p .later)) && chained pairs (p .earlier) (p .later) pairs) k (closingFault pairs (suc k) more) wrong
 
 -- The closing of the order.
 

@@ -1,8 +1,8 @@
 -- Laws of the rules body: the record of rule h, what a sound body says of it, and that no two records are equal.
 -- Assumes nothing.
 use mathlib.Core.Path.{_≡_, refl, sym, _∙_, ap}
-use mathlib.Core.Bool.{Bool, true, false, _&&_, _||_, cond, and-eq-true-iff}
-use mathlib.Core.List.{List, [], _∷_, _++_}
+use mathlib.Core.Bool.{Bool, true, false, _&&_, _||_, and-eq-true-iff}
+use mathlib.Core.List.{List, [], _∷_}
 use mathlib.Core.Logic.{_⊎_, inl, inr}
 use Prim.Native.Nat.{ℕ, zero, suc, _+_, _-_, _*_, _≤_, _<_}
 use native.Mathlib.Omega.{arith}
@@ -12,7 +12,7 @@ use lib.Seq.{drop-drop, take-add, length-take-le}
 use borrow.Author.Tests.{eqb-true, eqb-false, eq-eqb, leb-true, ltb-true, lt-ltb}
 use Rattle.paper.specs.Multiset.{Ascending}
 use Rattle.paper.specs.Grammar.{Rule}
-use Rattle.paper.specs.Image.{every, byte, allBelow, ascends, recordBefore, recordSize, recordOf, ruleOf, recordRight, Spot, sound, at, recordFault, rulesFault, rulesOf}
+use Rattle.paper.specs.Image.{byte, allBelow, ascends, recordBefore, recordSize, recordOf, ruleOf, recordRight, Spot, sound, at, recordFault, rulesFault, rulesOf}
 use Rattle.paper.specs.Records.{recordAt, recordPlace}
 use Rattle.paper.specs.Written.{ruleBytes}
 
@@ -20,6 +20,30 @@ use Rattle.paper.specs.Written.{ruleBytes}
 pub goes-on : (t : Bool) (k : ℕ) (next : Spot) → elim t as (λ x. Spot) [ true ↦ next | false ↦ at k ] ≡ sound → (t ≡ true) × (next ≡ sound)
 goes-on true k next h = (refl, h)
 goes-on false k next h = absurd (let z : _≡_ {A = ℕ} 0 1 = cc in let l : ⊥ = omega arith in l)
+
+-- where the test holds the rest decides, and else the fault is here
+pub spot-on : (t : Bool) (k : ℕ) (next : Spot) → t ≡ true → elim t as (λ x. Spot) [ true ↦ next | false ↦ at k ] ≡ next
+spot-on true k next e = refl
+spot-on false k next e = absurd (let z : _≡_ {A = ℕ} 0 1 = cc in let l : ⊥ = omega arith in l)
+
+pub spot-here : (t : Bool) (k : ℕ) (next : Spot) → t ≡ false → elim t as (λ x. Spot) [ true ↦ next | false ↦ at k ] ≡ at k
+spot-here true k next e = absurd (let z : _≡_ {A = ℕ} 0 1 = cc in let l : ⊥ = omega arith in l)
+spot-here false k next e = refl
+
+-- One step of the search for a fault: on past a record that is right and in order, or no further.
+
+pub record-on : (terminals symbols more k : ℕ) (last r : List ℕ) → recordRight terminals symbols r ≡ true → recordBefore last (recordOf r) ≡ true
+    → recordFault terminals symbols (suc more) k last r ≡ recordFault terminals symbols more (suc k) (recordOf r) (drop (recordSize r) r)
+unfolding recordFault
+record-on terminals symbols more k last r right before =
+    spot-on (recordRight terminals symbols r && recordBefore last (recordOf r)) k (recordFault terminals symbols more (suc k) (recordOf r) (drop (recordSize r) r))
+    (and-eq-true-iff (recordRight terminals symbols r) (recordBefore last (recordOf r)) .1 (right, before))
+
+pub record-stop : (terminals symbols more k : ℕ) (last r : List ℕ) → (recordRight terminals symbols r && recordBefore last (recordOf r)) ≡ false
+    → recordFault terminals symbols (suc more) k last r ≡ at k
+unfolding recordFault
+record-stop terminals symbols more k last r wrong =
+    spot-here (recordRight terminals symbols r && recordBefore last (recordOf r)) k (recordFault terminals symbols more (suc k) (recordOf r) (drop (recordSize r) r)) wrong
 
 -- Rules by number.
 

@@ -4,15 +4,14 @@ use mathlib.Core.Path.{_≡_, refl, sym, _∙_, ap}
 use mathlib.Core.List.{List, [], _∷_, _++_}
 use Prim.Native.Nat.{ℕ, zero, suc, _+_, _*_, _/_, _%_, _≤_, _<_}
 use native.Mathlib.Omega.{arith}
-use lib.ListN.{length, getD, take, drop, take-append-drop, length-drop, drop-of-length-le}
+use lib.ListN.{length, take, drop, take-append-drop, length-drop, drop-of-length-le}
 use lib.Seq.{drop-cons, drop-drop, take-all}
-use Rattle.paper.specs.Grammar.{Rule, Grammar}
-use Rattle.paper.specs.Image.{byte, twoBytes, kind, offset, extent, body, recordSize, recordOf, ruleOf, rulesOf, Pair, pairsOf, imageSymbols, imageTerminals, imagePairs, imageFault, grammarOf}
+use Rattle.paper.specs.Image.{byte, kind, offset, extent, body, recordSize, recordOf, ruleOf, rulesOf, pairsOf, imageSymbols, imageTerminals, imagePairs, imageFault, grammarOf}
 use Rattle.paper.specs.Records.{recordAt}
-use Rattle.paper.specs.Written.{AreBytes, highLow, entryBytes, symbolsBody, ruleBytes, rulesBytes, rulesBody, orderBody, contentsBytes, imageBytes, written}
+use Rattle.paper.specs.Written.{AreBytes, entryBytes, symbolsBody, ruleBytes, rulesBytes, rulesBody, orderBody, contentsBytes, imageBytes, written}
 use Rattle.paper.proofs.Records.{rules-count, record-bytes, record-right, RightRecords, records-tail, RightRules, rules-right}
-use Rattle.paper.proofs.Order.{RightPairs, pairs-right}
-use Rattle.paper.proofs.Image.{Admitted, admitted, RightSymbols, symbols-right, RightContents, contents-right, body-length, byte-below}
+use Rattle.paper.proofs.Order.{pairs-right}
+use Rattle.paper.proofs.Image.{admitted, symbols-right, RightContents, contents-right, body-length, byte-below}
 
 -- n bytes from place i on, one by one
 abbrev bytesFrom : ℕ → ℕ → List ℕ → List ℕ

@@ -1,6 +1,6 @@
 -- The places of the records in a rules body: where rule h is written.
 -- Assumes nothing.
-use mathlib.Core.List.{List, [], _∷_}
+use mathlib.Core.List.{List}
 use Prim.Native.Nat.{ℕ, zero, suc, _+_}
 use lib.ListN.{drop}
 use Rattle.paper.specs.Image.{recordSize}
