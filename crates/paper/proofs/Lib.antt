@@ -1,4 +1,5 @@
 pub mod Multiset
+pub mod Bits
 pub mod Rewriting
 pub mod Trees
 pub mod Seeking
