@@ -1,0 +1,294 @@
+-- Laws of the byte of an entry: the rest that it tells, taking a member from it, putting one back, and the word that it makes.
+-- Assumes nothing.
+use mathlib.Core.Path.{_≡_, refl, sym, _∙_, ap}
+use mathlib.Core.Logic.{_⊎_, inl, inr, _↔_, _≢_}
+use mathlib.Core.Bool.{Bool, true, false, _&&_, _||_, cond}
+use mathlib.Core.List.{List, [], _∷_, _++_, Memᴰ·cast}
+use Prim.Native.Nat.{ℕ, zero, suc, _+_, _-_, _*_, _/_, _%_, _^_, _≤_, _<_}
+use native.Mathlib.Omega.{arith}
+use native.Mathlib.Nat.{pow-suc, pow-le-pow-right}
+use native.Mathlib.Decide.{decLt, ℕ-discrete}
+use lib.Dec.{eqb, leb, ltb}
+use lib.ListN.{length, getD, drop}
+use lib.Pow.{pow-pos}
+use lib.Bits.{bitAnd}
+use lib.Count.{ones}
+use borrow.Author.Tests.{eqb-true, eqb-false, eq-eqb, ne-eqb, leb-true, le-leb, lt-ltb, ltb-true}
+use Rattle.paper.specs.Bits.{bitAt}
+use Rattle.paper.specs.Multiset.{bit, count, Arrangement, has, without, minus}
+use Rattle.paper.specs.Grammar.{Grammar, IsGrammar, ruleCount, members}
+use Rattle.paper.specs.Entry.{Entry, barred, mayTake, Found, Stands}
+use Rattle.paper.specs.Sheet.{mask, word, restOf, entryOf}
+use Rattle.paper.proofs.Bits.{bit-lt, bit-cases, bit-high, bit-place, bit-le, bits-none, bits-same, set-here, set-other, set-lt, clear-here, clear-other, clear-set, set-clear, clear-lt, and-none, zero-ones}
+use Rattle.paper.proofs.Multiset.{count-self, count-other, count-append, arranged-sym}
+use Rattle.paper.proofs.Machine.{has-head, has-tail, each-unbarred, unbarred-each, taken-has, taken-unbarred, may-take, arranged-minus}
+use Rattle.paper.proofs.SubMultisets.{Listed, Present, listed-cases, listed-nil, listed-missing, listed-present, listed-all, listed-without, listed-minus, listed-same}
+use Rattle.paper.proofs.Words.{mask-below, mask-missing, mask-present, restOf-mask, ones-mask, entryOf-word}
+use Rattle.paper.proofs.Universe.{Possible, found-possible, stands-possible}
+use Rattle.tables.specs.Table.{barBits, barsOf}
+use Rattle.tables.specs.Masks.{Proper, Takeable, LastFound, TakenFrom}
+
+-- ## A number with the bit b below n
+
+bit-le-one : (b : Bool) → bit b ≤ 1
+bit-le-one true = omega arith
+bit-le-one false = omega arith
+
+lowest : (b : Bool) (n : ℕ) → (bit b + 2 * n) % 2 ≡ bit b
+lowest b n = omega (arith, bit-le-one b)
+
+others : (b : Bool) (n : ℕ) → (bit b + 2 * n) / 2 ≡ n
+others b n = omega (arith, bit-le-one b)
+
+bit-true : (b : Bool) → bit b ≡ 1 → b ≡ true
+bit-true true e = refl
+bit-true false e = absurd (let z : ⊥ = omega arith in z)
+
+-- ## The rest that a byte tells
+
+rest-odd : (a : ℕ) (s : List ℕ) (m : ℕ) → m % 2 ≡ 1 → restOf (a ∷ s) m ≡ a ∷ restOf s (m / 2)
+unfolding restOf
+rest-odd a s m e = rw (eq-eqb (m % 2) 1 e)
+
+rest-even : (a : ℕ) (s : List ℕ) (m : ℕ) → m % 2 ≡ 0 → restOf (a ∷ s) m ≡ restOf s (m / 2)
+unfolding restOf
+rest-even a s m e = rw (ne-eqb (m % 2) 1 (λ f. let z : ⊥ = omega arith in z))
+
+-- a member whose bit is set is in it
+pub rest-has : (s : List ℕ) (m k : ℕ) → k < length s → bitAt k m ≡ 1 → has (getD s k 0) (restOf s m) ≡ true
+unfolding bitAt
+rest-has [] m k l e = absurd (let z : ⊥ = omega arith in z)
+rest-has (a ∷ s) m zero l e = rw (rest-odd a s m e) (has-head a (restOf s (m / 2)))
+rest-has (a ∷ s) m (suc k) l e = go (bit-cases 0 m) (rest-has s (m / 2) k (omega arith) e)
+  where
+    go : (m % 2 ≡ 0) ⊎ (m % 2 ≡ 1) → has (getD s k 0) (restOf s (m / 2)) ≡ true → has (getD s k 0) (restOf (a ∷ s) m) ≡ true
+    go (inl f) ih = rw (rest-even a s m f) ih
+    go (inr f) ih = rw (rest-odd a s m f) (has-tail (getD s k 0) a (restOf s (m / 2)) ih)
+
+-- Of the members equal to a, k is the first whose bit is set.
+record FirstLeft (s : List ℕ) (m a k : ℕ) : Type 0 where
+  place : k < length s
+  member : getD s k 0 ≡ a
+  is-left : bitAt k m ≡ 1
+  earlier : (j : ℕ) → j < k → getD s j 0 ≡ a → bitAt j m ≡ 0
+
+first-head : (s : List ℕ) (m a : ℕ) → m % 2 ≡ 1 → FirstLeft (a ∷ s) m a 0
+unfolding bitAt
+first-head s m a e = record { place = omega arith; member = refl; is-left = e; earlier = λ j l. absurd (let z : ⊥ = omega arith in z) }
+
+first-tail : (s : List ℕ) (b m a k : ℕ) → (b ≡ a → m % 2 ≡ 0) → FirstLeft s (m / 2) a k → FirstLeft (b ∷ s) m a (suc k)
+unfolding bitAt
+first-tail s b m a k f h = record { place = omega (arith, h .place); member = h .member; is-left = h .is-left; earlier = places }
+  where
+    places : (j : ℕ) → j < suc k → getD (b ∷ s) j 0 ≡ a → bitAt j m ≡ 0
+    places zero l e = f e
+    places (suc j) l e = h .earlier j (omega arith) e
+
+-- a symbol in it has a member whose bit is set, and so a first one
+rest-first : (s : List ℕ) (m a : ℕ) → has a (restOf s m) ≡ true → (k : ℕ) × FirstLeft s m a k
+unfolding restOf has bitAt
+rest-first [] m a h = absurd (let z : _≡_ {A = ℕ} 0 1 = cc in let k : ⊥ = omega arith in k)
+rest-first (b ∷ s) m a h = go (bit-cases 0 m) (ℕ-discrete b a) (rest-first s (m / 2) a)
+  where
+    front : (b ≡ a) → (m % 2 ≡ 1) → (k : ℕ) × FirstLeft (b ∷ s) m a k
+    front e f = (0, rw e (first-head s m a f))
+
+    behind : ((k : ℕ) × FirstLeft s (m / 2) a k) → (b ≡ a → m % 2 ≡ 0) → (k : ℕ) × FirstLeft (b ∷ s) m a k
+    behind x f = (suc (x .0), first-tail s b m a (x .0) f (x .1))
+
+    there : (m % 2 ≡ 1) → (b ≡ a → ⊥) → has a (restOf s (m / 2)) ≡ true
+    there f ne = let t : has a (b ∷ restOf s (m / 2)) ≡ true = rw (rest-odd b s m f) at h in rw (ne-eqb a b (λ e. ne (sym e))) at t
+
+    go : (bitAt 0 m ≡ 0) ⊎ (bitAt 0 m ≡ 1) → Dec (b ≡ a) → (has a (restOf s (m / 2)) ≡ true → (k : ℕ) × FirstLeft s (m / 2) a k) → (k : ℕ) × FirstLeft (b ∷ s) m a k
+    go (inl f) d ih = behind (ih (rw (rest-even b s m f) at h)) (λ e. f)
+    go (inr f) (yes e) ih = front e f
+    go (inr f) (no ne) ih = behind (ih (there f ne)) (λ e. absurd (ne e))
+
+-- if every member equal to a has its bit set, the rest has a as often as the members
+rest-every : (a : ℕ) (s : List ℕ) (m : ℕ) → ((j : ℕ) → j < length s → getD s j 0 ≡ a → bitAt j m ≡ 1) → count a (restOf s m) ≡ count a s
+unfolding restOf count bitAt
+rest-every a [] m f = refl
+rest-every a (b ∷ s) m f = go (bit-cases 0 m) (rest-every a s (m / 2) (λ j l. f (suc j) (omega arith)))
+  where
+    go : (bitAt 0 m ≡ 0) ⊎ (bitAt 0 m ≡ 1) → count a (restOf s (m / 2)) ≡ count a s → count a (restOf (b ∷ s) m) ≡ count a (b ∷ s)
+    go (inl e) ih =
+        rw (rest-even b s m e) (ih ∙ sym (count-other a b s (λ p. let q = f 0 (omega arith) (sym p) in let z : ⊥ = omega arith in z)))
+    go (inr e) ih = rw (rest-odd b s m e) (ap (bit (eqb a b) +_) ih)
+
+-- ## Proper bytes
+
+proper-tail : {a : ℕ} {s : List ℕ} {m : ℕ} → Proper (a ∷ s) m → Proper s (m / 2)
+unfolding bitAt
+proper-tail {a} {s} {m} p =
+    record { below = omega (arith, p .below, pow-suc 2 (length s)); later = λ i j l h e. p .later (suc i) (suc j) (omega arith) (omega arith) e }
+
+-- the rest is listed, and the byte is its mask
+listed-mask : (s : List ℕ) (m : ℕ) → Proper s m → Listed (restOf s m) s × (mask s (restOf s m) ≡ m)
+unfolding restOf mask bitAt
+listed-mask [] m p = (listed-all [], omega (arith, p .below))
+listed-mask (a ∷ s) m p = go (bit-cases 0 m) (listed-mask s (m / 2) (proper-tail p))
+  where
+    every : m % 2 ≡ 1 → count a (restOf s (m / 2)) ≡ count a s
+    every e = rest-every a s (m / 2) (λ j l f. p .later 0 (suc j) (omega arith) (omega arith) (sym f) e)
+
+    go : (bitAt 0 m ≡ 0) ⊎ (bitAt 0 m ≡ 1) → Listed (restOf s (m / 2)) s × (mask s (restOf s (m / 2)) ≡ m / 2)
+        → Listed (restOf (a ∷ s) m) (a ∷ s) × (mask (a ∷ s) (restOf (a ∷ s) m) ≡ m)
+    go (inl e) (l, f) = rw (rest-even a s m e) ((listed-missing a s l, mask-missing a s l ∙ omega arith))
+    go (inr e) (l, f) =
+        rw (rest-odd a s m e) ((listed-present a s l (every e), mask-present a s (restOf s (m / 2)) (every e) ∙ omega arith))
+
+-- the rest that a proper byte tells is one of the sub-multisets listed
+pub proper-listed : {s : List ℕ} {m : ℕ} → Proper s m → Listed (restOf s m) s
+proper-listed {s} {m} p = listed-mask s m p .0
+
+-- the mask of the rest is the byte again
+pub mask-restOf : {s : List ℕ} {m : ℕ} → Proper s m → mask s (restOf s m) ≡ m
+mask-restOf {s} {m} p = listed-mask s m p .1
+
+mask-bit : (s rest : List ℕ) (k : ℕ) → k < length s → bitAt k (mask s rest) ≡ bit (leb (count (getD s k 0) (drop k s)) (count (getD s k 0) rest))
+unfolding bitAt mask
+mask-bit [] rest k l = absurd (let z : ⊥ = omega arith in z)
+mask-bit (a ∷ s) rest zero l = lowest (leb (count a (a ∷ s)) (count a rest)) (mask s rest)
+mask-bit (a ∷ s) rest (suc k) l = ap (bitAt k) (others (leb (count a (a ∷ s)) (count a rest)) (mask s rest)) ∙ mask-bit s rest k (omega arith)
+
+count-drop-tail : (a b : ℕ) (s : List ℕ) (j : ℕ) → count a (drop j s) ≤ count a (b ∷ s)
+unfolding count
+count-drop-tail a b s zero = omega arith
+count-drop-tail a b [] (suc j) = omega arith
+count-drop-tail a b (c ∷ s) (suc j) = omega (arith, count-drop-tail a c s j)
+
+count-drop : (a : ℕ) (s : List ℕ) (i j : ℕ) → i < j → count a (drop j s) ≤ count a (drop i s)
+unfolding count
+count-drop a s i zero l = absurd (let z : ⊥ = omega arith in z)
+count-drop a [] zero (suc j) l = omega arith
+count-drop a [] (suc i) (suc j) l = omega arith
+count-drop a (b ∷ s) zero (suc j) l = count-drop-tail a b s j
+count-drop a (b ∷ s) (suc i) (suc j) l = count-drop a s i j (omega arith)
+
+-- every mask is a proper byte
+pub mask-proper : (s rest : List ℕ) → Proper s (mask s rest)
+mask-proper s rest = record { below = mask-below s rest; later = places }
+  where
+    same : (a b i j : ℕ) → i < j → a ≡ b → count a (drop i s) ≤ count a rest → leb (count b (drop j s)) (count b rest) ≡ true
+    same a b i j l e h = le-leb (count b (drop j s)) (count b rest) (let k : count b (drop i s) ≤ count b rest = rw e at h in omega (arith, count-drop b s i j l))
+
+    places : (i j : ℕ) → i < j → j < length s → getD s i 0 ≡ getD s j 0 → bitAt i (mask s rest) ≡ 1 → bitAt j (mask s rest) ≡ 1
+    places i j l h e f =
+        let t = leb-true (count (getD s i 0) (drop i s)) (count (getD s i 0) rest) (bit-true (leb (count (getD s i 0) (drop i s)) (count (getD s i 0) rest)) (sym (mask-bit s rest i (omega arith)) ∙ f)) in
+        mask-bit s rest j h ∙ ap bit (same (getD s i 0) (getD s j 0) i j l e t)
+
+-- what is found where r is the rest
+record Less (s r : List ℕ) : Type 0 where
+  found : List ℕ
+  arranged : Arrangement (found ++ r) s
+
+less-missing : (a : ℕ) (s r : List ℕ) → Less s r → Less (a ∷ s) r
+unfolding count
+less-missing a s r x = record { found = a ∷ x .found; arranged = record { counts = λ b. ap (bit (eqb b a) +_) (x .arranged .counts b) } }
+
+less-present : (a : ℕ) (s q : List ℕ) → Less s q → Less (a ∷ s) (a ∷ q)
+unfolding count
+less-present a s q x =
+    record { found = x .found; arranged = record { counts = λ b. omega (arith, count-append b (x .found) (a ∷ q), count-append b (x .found) q, x .arranged .counts b) } }
+
+less : (s : List ℕ) {r : List ℕ} → Listed r s → Less s r
+less [] l = rw (listed-nil l) (record { found = []; arranged = record { counts = λ a. refl } })
+less (a ∷ s) {r} l = go (listed-cases a s l) (λ q n. less s n)
+  where
+    go : Listed r s ⊎ Present a s r → ((q : List ℕ) → Listed q s → Less s q) → Less (a ∷ s) r
+    go (inl n) ih = less-missing a s r (ih r n)
+    go (inr p) ih = rw (p .r-is) (less-present a s (p .q) (ih (p .q) (p .listed)))
+
+less-minus : (s : List ℕ) {r : List ℕ} → Listed r s → (x : Less s r) → minus s (x .found) ≡ r
+less-minus s {r} l x = sym (listed-same s l (listed-minus s (x .found)) (arranged-minus (x .found) r (x .arranged)))
+
+-- the rest that a proper byte tells is what the members are less those found
+pub proper-minus : {s : List ℕ} {m : ℕ} → Proper s m → (found : List ℕ) × (restOf s m ≡ minus s found) × Arrangement (found ++ restOf s m) s
+proper-minus {s} {m} p =
+    let l = proper-listed p in
+    let x = less s l in
+    (x .found, sym (less-minus s l x), x .arranged)
+
+-- exactly the masks of such rests are proper
+pub proper-exactly : (s : List ℕ) (m : ℕ) → Proper s m ↔ ((found : List ℕ) × (m ≡ mask s (minus s found)) × Arrangement (found ++ minus s found) s)
+proper-exactly s m = (λ p. there p, λ x. rw (x .1) (mask-proper s (minus s (x .0))))
+  where
+    there : Proper s m → (found : List ℕ) × (m ≡ mask s (minus s found)) × Arrangement (found ++ minus s found) s
+    there p = let x = proper-minus p in (x .0, sym (mask-restOf p) ∙ ap (mask s) (x .1), rw (← x .1) (x .2))
+
+-- bytes that tell one rest are one
+pub proper-same : {s : List ℕ} {m n : ℕ} → Proper s m → Proper s n → restOf s m ≡ restOf s n → m ≡ n
+proper-same {s} p q e = sym (mask-restOf p) ∙ (ap (mask s) e ∙ mask-restOf q)
+
+-- 01: "how many are left is the number of ones in it"
+pub rest-length : {s : List ℕ} {m : ℕ} → Proper s m → length (restOf s m) ≡ ones m
+rest-length {s} {m} p = sym (ones-mask s (proper-listed p)) ∙ ap ones (mask-restOf p)
+
+-- nothing is left exactly if the byte is 0
+pub rest-nil : {s : List ℕ} {m : ℕ} → Proper s m → (m ≡ 0) ↔ (restOf s m ≡ [])
+rest-nil {s} {m} p = (λ e. empty (restOf s m) (rest-length p ∙ zero-ones m .1 e), λ e. zero-ones m .0 (sym (rest-length p) ∙ ap length e))
+  where
+    empty : (r : List ℕ) → length r ≡ 0 → r ≡ []
+    empty [] e = refl
+    empty (a ∷ r) e = absurd (let z : ⊥ = omega arith in z)
+
+-- ## The byte of a fresh entry
+
+mask-all : (s : List ℕ) → mask s s ≡ 2 ^ length s - 1
+unfolding mask
+mask-all [] = refl
+mask-all (a ∷ s) = mask-present a s s refl ∙ omega (arith, mask-all s, pow-suc 2 (length s), pow-pos (length s))
+
+pub full-proper : (s : List ℕ) → Proper s (2 ^ length s - 1)
+full-proper s = rw (← mask-all s) (mask-proper s s)
+
+pub full-rest : (s : List ℕ) → restOf s (2 ^ length s - 1) ≡ s
+full-rest s = ap (restOf s) (sym (mask-all s)) ∙ restOf-mask s (listed-all s)
+
+-- ## The members that bar another
+
+bars-below : (g : Grammar) (a k x : ℕ) (s : List ℕ) → barBits g a k x s < 2 ^ length s
+unfolding barBits
+bars-below g a k x [] = omega arith
+bars-below g a k x (b ∷ s) =
+    omega (arith, bars-below g a k (suc x) s, pow-suc 2 (length s), bit-le-one (g .precedes b a || (ltb x k && eqb b a)))
+
+bars-bit : (g : Grammar) (a k x : ℕ) (s : List ℕ) (j : ℕ) → j < length s → bitAt j (barBits g a k x s) ≡ bit (g .precedes (getD s j 0) a || (ltb (x + j) k && eqb (getD s j 0) a))
+unfolding bitAt barBits
+bars-bit g a k x [] j l = absurd (let z : ⊥ = omega arith in z)
+bars-bit g a k x (b ∷ s) zero l =
+    let e : x + 0 ≡ x = omega arith in
+    lowest (g .precedes b a || (ltb x k && eqb b a)) (barBits g a k (suc x) s) ∙ ap (λ y. bit (g .precedes b a || (ltb y k && eqb b a))) (sym e)
+bars-bit g a k x (b ∷ s) (suc j) l =
+    let e : suc x + j ≡ x + suc j = omega arith in
+    ap (bitAt j) (others (g .precedes b a || (ltb x k && eqb b a)) (barBits g a k (suc x) s))
+      ∙ (bars-bit g a k (suc x) s j (omega arith) ∙ ap (λ y. bit (g .precedes (getD s j 0) a || (ltb y k && eqb (getD s j 0) a))) e)
+
+barring : (x y z : Bool) → bit (x || (y && z)) ≡ 1 → (x ≡ true) ⊎ ((y ≡ true) × (z ≡ true))
+barring true y z e = inl refl
+barring false true true e = inr (refl, refl)
+barring false true false e = absurd (let z : ⊥ = omega arith in z)
+barring false false z e = absurd (let z : ⊥ = omega arith in z)
+
+barring-equal : (x : Bool) → bit (x || (true && true)) ≡ 1
+barring-equal true = refl
+barring-equal false = refl
+
+bars-test : (x : Bool) (j k b a : ℕ) → (bit (x || (ltb (0 + j) k && eqb b a)) ≡ 1) ↔ ((x ≡ true) ⊎ ((j < k) × (b ≡ a)))
+bars-test x j k b a = (λ e. there (barring x (ltb (0 + j) k) (eqb b a) e), λ e. back e)
+  where
+    there : (x ≡ true) ⊎ ((ltb (0 + j) k ≡ true) × (eqb b a ≡ true)) → (x ≡ true) ⊎ ((j < k) × (b ≡ a))
+    there (inl e) = inl e
+    there (inr (e, f)) = inr (omega (arith, ltb-true (0 + j) k e), eqb-true b a f)
+
+    back : (x ≡ true) ⊎ ((j < k) × (b ≡ a)) → bit (x || (ltb (0 + j) k && eqb b a)) ≡ 1
+    back (inl e) = rw e
+    back (inr (h, f)) = rw (lt-ltb (0 + j) k (omega arith), eq-eqb b a f) (barring-equal x)
+
+-- member j bars member k exactly if it must precede it, or is equal and written before it
+pub bars-exactly : (g : Grammar) (s : List ℕ) (k j : ℕ) → j < length s
+    → (bitAt j (barsOf g s k) ≡ 1) ↔ ((g .precedes (getD s j 0) (getD s k 0) ≡ true) ⊎ ((j < k) × (getD s j 0 ≡ getD s k 0)))
+bars-exactly g s k j l =
+    let law = bars-bit g (getD s k 0) k 0 s j l in
+    let test = bars-test (g .precedes (getD s j 0) (getD s k 0)) j k (getD s j 0) (getD s k 0) in
+    (λ e. test .0 (sym law ∙ e), λ e. law ∙ test .1 e)
