@@ -292,3 +292,215 @@ bars-exactly g s k j l =
     let law = bars-bit g (getD s k 0) k 0 s j l in
     let test = bars-test (g .precedes (getD s j 0) (getD s k 0)) j k (getD s j 0) (getD s k 0) in
     (λ e. test .0 (sym law ∙ e), λ e. law ∙ test .1 e)
+
+-- ## Taking a member
+
+-- no member that is left must precede one that may be taken
+takeable-order : {g : Grammar} {s : List ℕ} {m k : ℕ} → Takeable g s m k → (j : ℕ) → j < length s → bitAt j m ≡ 1 → g .precedes (getD s j 0) (getD s k 0) ≡ false
+takeable-order {g} {s} {m} {k} t j l e = go (g .precedes (getD s j 0) (getD s k 0)) refl
+  where
+    go : (x : Bool) → g .precedes (getD s j 0) (getD s k 0) ≡ x → x ≡ false
+    go true f = absurd (and-none m (barsOf g s k) .0 (t .unbarred) j e (bars-exactly g s k j l .1 (inl f)))
+    go false f = refl
+
+-- the members equal to it and written before it are found
+takeable-first : {g : Grammar} {s : List ℕ} {m k : ℕ} → Takeable g s m k → (j : ℕ) → j < k → getD s j 0 ≡ getD s k 0 → bitAt j m ≡ 0
+takeable-first {g} {s} {m} {k} t j l e = go (bit-cases j m)
+  where
+    go : (bitAt j m ≡ 0) ⊎ (bitAt j m ≡ 1) → bitAt j m ≡ 0
+    go (inl f) = f
+    go (inr f) = absurd (and-none m (barsOf g s k) .0 (t .unbarred) j f (bars-exactly g s k j (omega (arith, t .place)) .1 (inr (l, e))))
+
+-- a member that may be taken is a symbol that may be taken
+pub may : {g : Grammar} {s : List ℕ} {m k : ℕ} → Takeable g s m k → mayTake g (getD s k 0) (restOf s m) ≡ true
+may {g} {s} {m} {k} t =
+    may-take g (getD s k 0) (restOf s m) (rest-has s m k (t .place) (t .is-left)) (each-unbarred g (getD s k 0) (restOf s m) (λ b h. free b (rest-first s m b h)))
+  where
+    free : (b : ℕ) → (j : ℕ) × FirstLeft s m b j → g .precedes b (getD s k 0) ≡ false
+    free b (j, f) = rw (← f .member) (takeable-order t j (f .place) (f .is-left))
+
+first-unbarred : (g : Grammar) (s : List ℕ) (m a k : ℕ) → barred g a (restOf s m) ≡ false → FirstLeft s m a k → bitAnd m (barsOf g s k) ≡ 0
+first-unbarred g s m a k u f = and-none m (barsOf g s k) .1 (λ j e h. let l = bit-place (length s) j (barsOf g s k) (bars-below g (getD s k 0) k 0 s) h in go j l e (bars-exactly g s k j l .0 h))
+  where
+    go : (j : ℕ) → j < length s → bitAt j m ≡ 1 → (g .precedes (getD s j 0) (getD s k 0) ≡ true) ⊎ ((j < k) × (getD s j 0 ≡ getD s k 0)) → ⊥
+    go j l e (inl p) =
+        let q : g .precedes (getD s j 0) (getD s k 0) ≡ false = rw (f .member) (unbarred-each g a (getD s j 0) (restOf s m) u (rest-has s m j l e)) in
+        let z : _≡_ {A = ℕ} 0 1 = cc in
+        omega arith
+    go j l e (inr (h, p)) = omega (arith, f .earlier j h (p ∙ f .member))
+
+-- and a symbol that may be taken is a member that may be taken
+pub may-back : (g : Grammar) (s : List ℕ) (m a : ℕ) → mayTake g a (restOf s m) ≡ true → (k : ℕ) × Takeable g s m k × (getD s k 0 ≡ a)
+may-back g s m a h =
+    let x = rest-first s m a (taken-has g a (restOf s m) h) in
+    let f = x .1 in
+    (x .0, record { place = f .place; is-left = f .is-left; unbarred = first-unbarred g s m a (x .0) (taken-unbarred g a (restOf s m) h) f }, f .member)
+
+-- only one
+pub may-once : {g : Grammar} {s : List ℕ} {m k j : ℕ} → Takeable g s m k → Takeable g s m j → getD s k 0 ≡ getD s j 0 → k ≡ j
+may-once {g} {s} {m} {k} {j} t u e = go (decLt k j) (decLt j k)
+  where
+    go : Dec (k < j) → Dec (j < k) → k ≡ j
+    go (yes l) d = absurd (let z : ⊥ = omega (arith, takeable-first u k l e, t .is-left) in z)
+    go (no n) (yes l) = absurd (let z : ⊥ = omega (arith, takeable-first t j l (sym e), u .is-left) in z)
+    go (no n) (no l) = omega arith
+
+-- a symbol that no member which may be taken is may not be taken
+pub may-not : (g : Grammar) (s : List ℕ) (m a : ℕ) → ((k : ℕ) → Takeable g s m k → getD s k 0 ≢ a) → mayTake g a (restOf s m) ≡ false
+may-not g s m a f = go (mayTake g a (restOf s m)) refl
+  where
+    go : (x : Bool) → mayTake g a (restOf s m) ≡ x → x ≡ false
+    go true e = let x = may-back g s m a e in absurd (f (x .0) (x .1) (x .2))
+    go false e = refl
+
+without-head : (a : ℕ) (r : List ℕ) → without a (a ∷ r) ≡ r
+unfolding without
+without-head a r = rw (eq-eqb a a refl)
+
+without-other : (a b : ℕ) (r : List ℕ) → (a ≡ b → ⊥) → without a (b ∷ r) ≡ b ∷ without a r
+unfolding without
+without-other a b r ne = rw (ne-eqb a b ne)
+
+sub-half : (m k : ℕ) → (m - 2 ^ suc k) / 2 ≡ m / 2 - 2 ^ k
+sub-half m k = omega (arith, pow-suc 2 k)
+
+-- clearing the first bit of the members equal to a takes a from the rest
+rest-clear : (s : List ℕ) (m k : ℕ) → k < length s → bitAt k m ≡ 1 → ((j : ℕ) → j < k → getD s j 0 ≡ getD s k 0 → bitAt j m ≡ 0)
+    → restOf s (m - 2 ^ k) ≡ without (getD s k 0) (restOf s m)
+unfolding bitAt
+rest-clear [] m k l e f = absurd (let z : ⊥ = omega arith in z)
+rest-clear (a ∷ s) m zero l e f =
+    let h : (m - 1) / 2 ≡ m / 2 = omega arith in
+    rest-even a s (m - 1) (omega arith) ∙ (ap (restOf s) h ∙ sym (ap (without a) (rest-odd a s m e) ∙ without-head a (restOf s (m / 2))))
+rest-clear (a ∷ s) m (suc k) l e f = go (bit-cases 0 m) (rest-clear s (m / 2) k (omega arith) e (λ j i. f (suc j) (omega arith)))
+  where
+    lowest-same : (m - 2 ^ suc k) % 2 ≡ m % 2
+    lowest-same = omega (arith, pow-suc 2 k, bit-le (suc k) m e)
+
+    go : (bitAt 0 m ≡ 0) ⊎ (bitAt 0 m ≡ 1) → restOf s (m / 2 - 2 ^ k) ≡ without (getD s k 0) (restOf s (m / 2))
+        → restOf (a ∷ s) (m - 2 ^ suc k) ≡ without (getD s k 0) (restOf (a ∷ s) m)
+    go (inl h) ih =
+        rest-even a s (m - 2 ^ suc k) (lowest-same ∙ h) ∙ (ap (restOf s) (sub-half m k) ∙ (ih ∙ sym (ap (without (getD s k 0)) (rest-even a s m h))))
+    go (inr h) ih =
+        rest-odd a s (m - 2 ^ suc k) (lowest-same ∙ h)
+          ∙ (ap (λ n. a ∷ restOf s n) (sub-half m k)
+          ∙ (ap (a ∷_) ih
+          ∙ sym (ap (without (getD s k 0)) (rest-odd a s m h)
+          ∙ without-other (getD s k 0) a (restOf s (m / 2)) (λ p. let q = f 0 (omega arith) (sym p) in let z : ⊥ = omega arith in z))))
+
+-- the byte with member k taken tells the rest with that symbol taken
+pub take-rest : {g : Grammar} {s : List ℕ} {m k : ℕ} → Takeable g s m k → restOf s (m - 2 ^ k) ≡ without (getD s k 0) (restOf s m)
+take-rest {g} {s} {m} {k} t = rest-clear s m k (t .place) (t .is-left) (takeable-first t)
+
+-- it is proper
+pub take-proper : {g : Grammar} {s : List ℕ} {m k : ℕ} → Proper s m → Takeable g s m k → Proper s (m - 2 ^ k)
+take-proper {g} {s} {m} {k} p t = record { below = omega (arith, p .below); later = places }
+  where
+    go : (i j : ℕ) → i < j → j < length s → getD s i 0 ≡ getD s j 0 → bitAt i (m - 2 ^ k) ≡ 1 → Dec (i ≡ k) → Dec (j ≡ k) → bitAt j (m - 2 ^ k) ≡ 1
+    go i j l h e f (yes x) d = absurd (let z : ⊥ = omega (arith, ap (λ n. bitAt n (m - 2 ^ k)) x, clear-here k m (t .is-left)) in z)
+    go i j l h e f (no x) (yes y) =
+        absurd (let z : ⊥ = omega (arith, clear-other k i m (t .is-left) x, takeable-first t i (omega arith) (e ∙ ap (λ n. getD s n 0) y)) in z)
+    go i j l h e f (no x) (no y) = clear-other k j m (t .is-left) y ∙ p .later i j l h e (sym (clear-other k i m (t .is-left) x) ∙ f)
+
+    places : (i j : ℕ) → i < j → j < length s → getD s i 0 ≡ getD s j 0 → bitAt i (m - 2 ^ k) ≡ 1 → bitAt j (m - 2 ^ k) ≡ 1
+    places i j l h e f = go i j l h e f (ℕ-discrete i k) (ℕ-discrete j k)
+
+-- and the mask of that rest
+pub take-mask : {g : Grammar} {s : List ℕ} {m k : ℕ} → Proper s m → Takeable g s m k → mask s (without (getD s k 0) (restOf s m)) ≡ m - 2 ^ k
+take-mask {g} {s} p t = ap (mask s) (sym (take-rest t)) ∙ mask-restOf (take-proper p t)
+
+-- ## Putting a member back
+
+-- one at most is the last
+pub last-once : {s : List ℕ} {m a k j : ℕ} → LastFound s m a k → LastFound s m a j → k ≡ j
+last-once {s} {m} {a} {k} {j} x y = go (decLt k j) (decLt j k)
+  where
+    go : Dec (k < j) → Dec (j < k) → k ≡ j
+    go (yes l) d = absurd (let z : ⊥ = omega (arith, x .later j l (y .place) (y .member), y .is-found) in z)
+    go (no n) (yes l) = absurd (let z : ⊥ = omega (arith, y .later k l (x .place) (x .member), x .is-found) in z)
+    go (no n) (no l) = omega arith
+
+last-tail : (s : List ℕ) (b m a k : ℕ) → LastFound s (m / 2) a k → LastFound (b ∷ s) m a (suc k)
+unfolding bitAt
+last-tail s b m a k x = record { place = omega (arith, x .place); member = x .member; is-found = x .is-found; later = places }
+  where
+    places : (j : ℕ) → suc k < j → j < length (b ∷ s) → getD (b ∷ s) j 0 ≡ a → bitAt j m ≡ 1
+    places zero l h e = absurd (let z : ⊥ = omega arith in z)
+    places (suc j) l h e = x .later j (omega arith) (omega arith) e
+
+-- there is one, or every member equal to a is left
+pub last-found : (s : List ℕ) (m a : ℕ) → ((k : ℕ) × LastFound s m a k) ⊎ ((k : ℕ) → k < length s → getD s k 0 ≡ a → bitAt k m ≡ 1)
+unfolding bitAt
+last-found [] m a = inr (λ k l e. absurd (let z : ⊥ = omega arith in z))
+last-found (b ∷ s) m a = go (last-found s (m / 2) a) (bit-cases 0 m) (ℕ-discrete b a)
+  where
+    heres : ((k : ℕ) → k < length s → getD s k 0 ≡ a → bitAt k (m / 2) ≡ 1) → b ≡ a → m % 2 ≡ 0 → LastFound (b ∷ s) m a 0
+    heres f e h = record { place = omega arith; member = e; is-found = h; later = places }
+      where
+        places : (j : ℕ) → 0 < j → j < length (b ∷ s) → getD (b ∷ s) j 0 ≡ a → bitAt j m ≡ 1
+        places zero l i e = absurd (let z : ⊥ = omega arith in z)
+        places (suc j) l i e = f j (omega arith) e
+
+    all : ((k : ℕ) → k < length s → getD s k 0 ≡ a → bitAt k (m / 2) ≡ 1) → (b ≡ a → m % 2 ≡ 1) → (k : ℕ) → k < length (b ∷ s) → getD (b ∷ s) k 0 ≡ a → bitAt k m ≡ 1
+    all f h zero l e = h e
+    all f h (suc k) l e = f k (omega arith) e
+
+    go : ((k : ℕ) × LastFound s (m / 2) a k) ⊎ ((k : ℕ) → k < length s → getD s k 0 ≡ a → bitAt k (m / 2) ≡ 1) → (bitAt 0 m ≡ 0) ⊎ (bitAt 0 m ≡ 1) → Dec (b ≡ a)
+        → ((k : ℕ) × LastFound (b ∷ s) m a k) ⊎ ((k : ℕ) → k < length (b ∷ s) → getD (b ∷ s) k 0 ≡ a → bitAt k m ≡ 1)
+    go (inl x) h d = inl (suc (x .0), last-tail s b m a (x .0) (x .1))
+    go (inr f) (inl h) (yes e) = inl (0, heres f e h)
+    go (inr f) (inl h) (no ne) = inr (all f (λ e. absurd (ne e)))
+    go (inr f) (inr h) d = inr (all f (λ e. h))
+
+-- putting the last found member back makes a proper byte
+pub back-proper : {s : List ℕ} {m a k : ℕ} → Proper s m → LastFound s m a k → Proper s (m + 2 ^ k)
+back-proper {s} {m} {a} {k} p x = record { below = set-lt (length s) k m (x .place) (p .below) (x .is-found); later = places }
+  where
+    go : (i j : ℕ) → i < j → j < length s → getD s i 0 ≡ getD s j 0 → bitAt i (m + 2 ^ k) ≡ 1 → Dec (i ≡ k) → Dec (j ≡ k) → bitAt j (m + 2 ^ k) ≡ 1
+    go i j l h e f d (yes y) = ap (λ n. bitAt n (m + 2 ^ k)) y ∙ set-here k m (x .is-found)
+    go i j l h e f (yes w) (no y) =
+        set-other k j m (x .is-found) y ∙ x .later j (omega arith) h (sym e ∙ (ap (λ n. getD s n 0) w ∙ x .member))
+    go i j l h e f (no w) (no y) = set-other k j m (x .is-found) y ∙ p .later i j l h e (sym (set-other k i m (x .is-found) w) ∙ f)
+
+    places : (i j : ℕ) → i < j → j < length s → getD s i 0 ≡ getD s j 0 → bitAt i (m + 2 ^ k) ≡ 1 → bitAt j (m + 2 ^ k) ≡ 1
+    places i j l h e f = go i j l h e f (ℕ-discrete i k) (ℕ-discrete j k)
+
+-- it may be taken again, if no member that bars it is left
+pub back-takeable : {g : Grammar} {s : List ℕ} {m a k : ℕ} → LastFound s m a k → bitAnd (m + 2 ^ k) (barsOf g s k) ≡ 0 → Takeable g s (m + 2 ^ k) k
+back-takeable {g} {s} {m} {a} {k} x u = record { place = x .place; is-left = set-here k m (x .is-found); unbarred = u }
+
+-- a member that was taken is the last found of its equals
+pub take-last : {g : Grammar} {s : List ℕ} {m k : ℕ} → Proper s m → Takeable g s m k → LastFound s (m - 2 ^ k) (getD s k 0) k
+take-last {g} {s} {m} {k} p t = record {
+      place = t .place;
+      member = refl;
+      is-found = clear-here k m (t .is-left);
+      later = λ j l h e. clear-other k j m (t .is-left) (omega arith) ∙ p .later k j l h (sym e) (t .is-left) }
+
+last-cast : {s : List ℕ} {n m b a k : ℕ} → n ≡ m → b ≡ a → LastFound s n b k → LastFound s m a k
+last-cast {s} {n} {m} {b} {a} {k} e f x = rw (← e, ← f) x
+
+-- a is taken from n, which becomes m, exactly if n is m with the last found member equal to a put back, and no member that bars it is left
+pub taken-exactly : (g : Grammar) (s : List ℕ) (a n m : ℕ) → Proper s m
+    → TakenFrom g s a n m ↔ ((k : ℕ) × LastFound s m a k × (bitAnd (m + 2 ^ k) (barsOf g s k) ≡ 0) × (n ≡ m + 2 ^ k))
+taken-exactly g s a n m p = (λ x. there x, λ x. back x)
+  where
+    there : TakenFrom g s a n m → (k : ℕ) × LastFound s m a k × (bitAnd (m + 2 ^ k) (barsOf g s k) ≡ 0) × (n ≡ m + 2 ^ k)
+    there x =
+        let (k, t, e) = may-back g s n a (x .may) in
+        let f : n - 2 ^ k ≡ m = sym (take-mask (x .proper) t) ∙ (ap (λ b. mask s (without b (restOf s n))) e ∙ x .becomes) in
+        let h : m + 2 ^ k ≡ n = ap (λ y. y + 2 ^ k) (sym f) ∙ clear-set k n (t .is-left) in
+        (k, last-cast f e (take-last (x .proper) t), ap (λ y. bitAnd y (barsOf g s k)) h ∙ t .unbarred, sym h)
+
+    back : (k : ℕ) × LastFound s m a k × (bitAnd (m + 2 ^ k) (barsOf g s k) ≡ 0) × (n ≡ m + 2 ^ k) → TakenFrom g s a n m
+    back (k, l, u, e) =
+        let t = back-takeable {g = g} l u in
+        let q = back-proper p l in
+        rw (e, ← l .member) (record { proper = q; may = may t; becomes = take-mask q t ∙ set-clear k m })
+
+-- from one byte at most
+pub taken-once : {g : Grammar} {s : List ℕ} {a n o m : ℕ} → Proper s m → TakenFrom g s a n m → TakenFrom g s a o m → n ≡ o
+taken-once {g} {s} {a} {n} {o} {m} p x y =
+    let (k, l, u, e) = taken-exactly g s a n m p .0 x in
+    let (j, h, v, f) = taken-exactly g s a o m p .0 y in
+    e ∙ (ap (λ i. m + 2 ^ i) (last-once l h) ∙ sym f)
