@@ -7,7 +7,7 @@ use native.Mathlib.Omega.{arith}
 use native.Mathlib.Nat.{pow-suc, div-one}
 use native.Mathlib.Decide.{decLt}
 use lib.Arith.{bin-ind}
-use lib.Pow.{pow-pos, pow-mono, shr-shr}
+use lib.Pow.{pow-pos, shr-shr}
 use lib.Bits.{bitAnd, bitOr, and-step, or-step}
 use lib.Count.{ones, leadingZeros, trailingZeros, under, ones-step, leading-top}
 use Rattle.paper.specs.Bits.{bitAt}
@@ -49,10 +49,10 @@ bit-place n k x h e = go (decLt k n)
     go (no l) = absurd (let z : ⊥ = omega (arith, bit-high n k x (omega arith) h) in z)
 
 -- a number with bit k set is at least 2 ^ k
-pub bit-le : (k x : ℕ) → bitAt k x ≡ 1 → 2 ^ k ≤ x
+pub bit-power-le : (k x : ℕ) → bitAt k x ≡ 1 → 2 ^ k ≤ x
 unfolding bitAt
-bit-le zero x e = omega arith
-bit-le (suc k) x e = omega (arith, bit-le k (x / 2) e, pow-suc 2 k)
+bit-power-le zero x e = omega arith
+bit-power-le (suc k) x e = omega (arith, bit-power-le k (x / 2) e, pow-suc 2 k)
 
 -- bit j of a number from 2 ^ j on and below 2 ^ suc j
 pub bit-top : (j x : ℕ) → 2 ^ j ≤ x → x < 2 ^ suc j → bitAt j x ≡ 1
@@ -84,9 +84,29 @@ bits-same (suc n) x y h l f =
     let e : x / 2 ≡ y / 2 = bits-same n (x / 2) (y / 2) (omega (arith, pow-suc 2 n)) (omega (arith, pow-suc 2 n)) (λ k i. f (suc k) (omega arith)) in
     omega (arith, f 0 (omega arith))
 
+-- every bit below n of 2 ^ n - 1 is set
+pub bit-ones : (n k : ℕ) → k < n → bitAt k (2 ^ n - 1) ≡ 1
+unfolding bitAt
+bit-ones zero k l = absurd (let z : ⊥ = omega arith in z)
+bit-ones (suc n) zero l = omega (arith, pow-suc 2 n, pow-pos n)
+bit-ones (suc n) (suc k) l = let e : (2 ^ suc n - 1) / 2 ≡ 2 ^ n - 1 = omega (arith, pow-suc 2 n, pow-pos n) in ap (bitAt k) e ∙ bit-ones n k (omega arith)
+
+-- any other number below 2 ^ n has a clear bit there
+pub clear-exists : (n x : ℕ) → x < 2 ^ n → x ≢ 2 ^ n - 1 → (k : ℕ) × (k < n) × (bitAt k x ≡ 0)
+unfolding bitAt
+clear-exists zero x h ne = absurd (ne (omega arith))
+clear-exists (suc n) x h ne = go (bit-cases 0 x) (clear-exists n (x / 2))
+  where
+    go : (bitAt 0 x ≡ 0) ⊎ (bitAt 0 x ≡ 1) → (x / 2 < 2 ^ n → x / 2 ≢ 2 ^ n - 1 → (k : ℕ) × (k < n) × (bitAt k (x / 2) ≡ 0))
+        → (k : ℕ) × (k < suc n) × (bitAt k x ≡ 0)
+    go (inl e) ih = (0, omega arith, e)
+    go (inr e) ih =
+        let y = ih (omega (arith, pow-suc 2 n)) (λ f. ne (omega (arith, pow-suc 2 n, pow-pos n))) in
+        (suc (y .0), omega (arith, y .1), y .2)
+
 -- ## Setting a bit that is clear
 
-add-half : (k x : ℕ) → (x + 2 ^ suc k) / 2 ≡ x / 2 + 2 ^ k
+pub add-half : (k x : ℕ) → (x + 2 ^ suc k) / 2 ≡ x / 2 + 2 ^ k
 add-half k x = omega (arith, pow-suc 2 k)
 
 pub set-here : (k x : ℕ) → bitAt k x ≡ 0 → bitAt k (x + 2 ^ k) ≡ 1
@@ -111,7 +131,7 @@ set-lt (suc n) (suc k) x l h e =
 
 -- ## Clearing a bit that is set
 
-sub-half : (k x : ℕ) → (x - 2 ^ suc k) / 2 ≡ x / 2 - 2 ^ k
+pub sub-half : (k x : ℕ) → (x - 2 ^ suc k) / 2 ≡ x / 2 - 2 ^ k
 sub-half k x = omega (arith, pow-suc 2 k)
 
 pub clear-here : (k x : ℕ) → bitAt k x ≡ 1 → bitAt k (x - 2 ^ k) ≡ 0
@@ -121,18 +141,18 @@ clear-here (suc k) x e = ap (bitAt k) (sub-half k x) ∙ clear-here k (x / 2) e
 
 pub clear-other : (k j x : ℕ) → bitAt k x ≡ 1 → j ≢ k → bitAt j (x - 2 ^ k) ≡ bitAt j x
 clear-other k j x e ne =
-    let f : x - 2 ^ k + 2 ^ k ≡ x = omega (arith, bit-le k x e) in
+    let f : x - 2 ^ k + 2 ^ k ≡ x = omega (arith, bit-power-le k x e) in
     sym (set-other k j (x - 2 ^ k) (clear-here k x e) ne) ∙ ap (bitAt j) f
 
 pub clear-set : (k x : ℕ) → bitAt k x ≡ 1 → x - 2 ^ k + 2 ^ k ≡ x
-clear-set k x e = omega (arith, bit-le k x e)
+clear-set k x e = omega (arith, bit-power-le k x e)
 
 pub set-clear : (k x : ℕ) → x + 2 ^ k - 2 ^ k ≡ x
 set-clear k x = omega arith
 
 -- the number becomes smaller
 pub clear-lt : (k x : ℕ) → bitAt k x ≡ 1 → x - 2 ^ k < x
-clear-lt k x e = omega (arith, bit-le k x e, pow-pos k)
+clear-lt k x e = omega (arith, bit-power-le k x e, pow-pos k)
 
 -- ## The bits that two numbers share, and those that either has
 

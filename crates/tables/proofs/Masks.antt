@@ -2,8 +2,8 @@
 -- Assumes nothing.
 use mathlib.Core.Path.{_≡_, refl, sym, _∙_, ap}
 use mathlib.Core.Logic.{_⊎_, inl, inr, _↔_, _≢_}
-use mathlib.Core.Bool.{Bool, true, false, _&&_, _||_, cond}
-use mathlib.Core.List.{List, [], _∷_, _++_, Memᴰ·cast}
+use mathlib.Core.Bool.{Bool, true, false, _&&_, _||_}
+use mathlib.Core.List.{List, [], _∷_, _++_}
 use Prim.Native.Nat.{ℕ, zero, suc, _+_, _-_, _*_, _/_, _%_, _^_, _≤_, _<_}
 use native.Mathlib.Omega.{arith}
 use native.Mathlib.Nat.{pow-suc, pow-le-pow-right}
@@ -13,32 +13,28 @@ use lib.ListN.{length, getD, drop}
 use lib.Pow.{pow-pos}
 use lib.Bits.{bitAnd}
 use lib.Count.{ones}
-use borrow.Author.Tests.{eqb-true, eqb-false, eq-eqb, ne-eqb, leb-true, le-leb, lt-ltb, ltb-true}
+use borrow.Author.Tests.{eqb-true, eq-eqb, ne-eqb, leb-true, le-leb, lt-ltb, ltb-true}
 use Rattle.paper.specs.Bits.{bitAt}
 use Rattle.paper.specs.Multiset.{bit, count, Arrangement, has, without, minus}
 use Rattle.paper.specs.Grammar.{Grammar, IsGrammar, ruleCount, members}
-use Rattle.paper.specs.Entry.{Entry, barred, mayTake, Found, Stands}
+use Rattle.paper.specs.Entry.{Entry, barred, mayTake, fresh, taking, finished, Found, Stands}
 use Rattle.paper.specs.Sheet.{mask, word, restOf, entryOf}
-use Rattle.paper.proofs.Bits.{bit-lt, bit-cases, bit-high, bit-place, bit-le, bits-none, bits-same, set-here, set-other, set-lt, clear-here, clear-other, clear-set, set-clear, clear-lt, and-none, zero-ones}
-use Rattle.paper.proofs.Multiset.{count-self, count-other, count-append, arranged-sym}
+use Rattle.paper.proofs.Bits.{bit-cases, bit-place, bit-power-le, set-here, set-other, set-lt, clear-here, clear-other, clear-set, set-clear, sub-half, and-none, zero-ones}
+use Rattle.paper.proofs.Multiset.{bit-le, count-other, count-append}
 use Rattle.paper.proofs.Machine.{has-head, has-tail, each-unbarred, unbarred-each, taken-has, taken-unbarred, may-take, arranged-minus}
-use Rattle.paper.proofs.SubMultisets.{Listed, Present, listed-cases, listed-nil, listed-missing, listed-present, listed-all, listed-without, listed-minus, listed-same}
+use Rattle.paper.proofs.SubMultisets.{Listed, Present, listed-cases, listed-nil, listed-missing, listed-present, listed-all, listed-minus, listed-same}
 use Rattle.paper.proofs.Words.{mask-below, mask-missing, mask-present, restOf-mask, ones-mask, entryOf-word}
 use Rattle.paper.proofs.Universe.{Possible, found-possible, stands-possible}
 use Rattle.tables.specs.Table.{barBits, barsOf}
-use Rattle.tables.specs.Masks.{Proper, Takeable, LastFound, TakenFrom}
+use Rattle.tables.specs.Masks.{Proper, Takeable, LastFound, TakenFrom, entryWith, HasByte}
 
 -- ## A number with the bit b below n
 
-bit-le-one : (b : Bool) → bit b ≤ 1
-bit-le-one true = omega arith
-bit-le-one false = omega arith
-
 lowest : (b : Bool) (n : ℕ) → (bit b + 2 * n) % 2 ≡ bit b
-lowest b n = omega (arith, bit-le-one b)
+lowest b n = omega (arith, bit-le b)
 
 others : (b : Bool) (n : ℕ) → (bit b + 2 * n) / 2 ≡ n
-others b n = omega (arith, bit-le-one b)
+others b n = omega (arith, bit-le b)
 
 bit-true : (b : Bool) → bit b ≡ 1 → b ≡ true
 bit-true true e = refl
@@ -251,7 +247,7 @@ bars-below : (g : Grammar) (a k x : ℕ) (s : List ℕ) → barBits g a k x s < 
 unfolding barBits
 bars-below g a k x [] = omega arith
 bars-below g a k x (b ∷ s) =
-    omega (arith, bars-below g a k (suc x) s, pow-suc 2 (length s), bit-le-one (g .precedes b a || (ltb x k && eqb b a)))
+    omega (arith, bars-below g a k (suc x) s, pow-suc 2 (length s), bit-le (g .precedes b a || (ltb x k && eqb b a)))
 
 bars-bit : (g : Grammar) (a k x : ℕ) (s : List ℕ) (j : ℕ) → j < length s → bitAt j (barBits g a k x s) ≡ bit (g .precedes (getD s j 0) a || (ltb (x + j) k && eqb (getD s j 0) a))
 unfolding bitAt barBits
@@ -262,7 +258,7 @@ bars-bit g a k x (b ∷ s) zero l =
 bars-bit g a k x (b ∷ s) (suc j) l =
     let e : suc x + j ≡ x + suc j = omega arith in
     ap (bitAt j) (others (g .precedes b a || (ltb x k && eqb b a)) (barBits g a k (suc x) s))
-      ∙ (bars-bit g a k (suc x) s j (omega arith) ∙ ap (λ y. bit (g .precedes (getD s j 0) a || (ltb y k && eqb (getD s j 0) a))) e)
+    ∙ (bars-bit g a k (suc x) s j (omega arith) ∙ ap (λ y. bit (g .precedes (getD s j 0) a || (ltb y k && eqb (getD s j 0) a))) e)
 
 barring : (x y z : Bool) → bit (x || (y && z)) ≡ 1 → (x ≡ true) ⊎ ((y ≡ true) × (z ≡ true))
 barring true y z e = inl refl
@@ -361,9 +357,6 @@ without-other : (a b : ℕ) (r : List ℕ) → (a ≡ b → ⊥) → without a (
 unfolding without
 without-other a b r ne = rw (ne-eqb a b ne)
 
-sub-half : (m k : ℕ) → (m - 2 ^ suc k) / 2 ≡ m / 2 - 2 ^ k
-sub-half m k = omega (arith, pow-suc 2 k)
-
 -- clearing the first bit of the members equal to a takes a from the rest
 rest-clear : (s : List ℕ) (m k : ℕ) → k < length s → bitAt k m ≡ 1 → ((j : ℕ) → j < k → getD s j 0 ≡ getD s k 0 → bitAt j m ≡ 0)
     → restOf s (m - 2 ^ k) ≡ without (getD s k 0) (restOf s m)
@@ -375,18 +368,18 @@ rest-clear (a ∷ s) m zero l e f =
 rest-clear (a ∷ s) m (suc k) l e f = go (bit-cases 0 m) (rest-clear s (m / 2) k (omega arith) e (λ j i. f (suc j) (omega arith)))
   where
     lowest-same : (m - 2 ^ suc k) % 2 ≡ m % 2
-    lowest-same = omega (arith, pow-suc 2 k, bit-le (suc k) m e)
+    lowest-same = omega (arith, pow-suc 2 k, bit-power-le (suc k) m e)
 
     go : (bitAt 0 m ≡ 0) ⊎ (bitAt 0 m ≡ 1) → restOf s (m / 2 - 2 ^ k) ≡ without (getD s k 0) (restOf s (m / 2))
         → restOf (a ∷ s) (m - 2 ^ suc k) ≡ without (getD s k 0) (restOf (a ∷ s) m)
     go (inl h) ih =
-        rest-even a s (m - 2 ^ suc k) (lowest-same ∙ h) ∙ (ap (restOf s) (sub-half m k) ∙ (ih ∙ sym (ap (without (getD s k 0)) (rest-even a s m h))))
+        rest-even a s (m - 2 ^ suc k) (lowest-same ∙ h) ∙ (ap (restOf s) (sub-half k m) ∙ (ih ∙ sym (ap (without (getD s k 0)) (rest-even a s m h))))
     go (inr h) ih =
         rest-odd a s (m - 2 ^ suc k) (lowest-same ∙ h)
-          ∙ (ap (λ n. a ∷ restOf s n) (sub-half m k)
-          ∙ (ap (a ∷_) ih
-          ∙ sym (ap (without (getD s k 0)) (rest-odd a s m h)
-          ∙ without-other (getD s k 0) a (restOf s (m / 2)) (λ p. let q = f 0 (omega arith) (sym p) in let z : ⊥ = omega arith in z))))
+        ∙ (ap (λ n. a ∷ restOf s n) (sub-half k m)
+        ∙ (ap (a ∷_) ih
+        ∙ sym (ap (without (getD s k 0)) (rest-odd a s m h)
+        ∙ without-other (getD s k 0) a (restOf s (m / 2)) (λ p. let q = f 0 (omega arith) (sym p) in let z : ⊥ = omega arith in z))))
 
 -- the byte with member k taken tells the rest with that symbol taken
 pub take-rest : {g : Grammar} {s : List ℕ} {m k : ℕ} → Takeable g s m k → restOf s (m - 2 ^ k) ≡ without (getD s k 0) (restOf s m)
@@ -452,6 +445,14 @@ last-found (b ∷ s) m a = go (last-found s (m / 2) a) (bit-cases 0 m) (ℕ-disc
     go (inr f) (inl h) (no ne) = inr (all f (λ e. absurd (ne e)))
     go (inr f) (inr h) d = inr (all f (λ e. h))
 
+-- the members equal to the last found one and written before it are found
+back-earlier : {s : List ℕ} {m a k : ℕ} → Proper s m → LastFound s m a k → (j : ℕ) → j < k → getD s j 0 ≡ getD s k 0 → bitAt j (m + 2 ^ k) ≡ 0
+back-earlier {s} {m} {a} {k} p x j l e = set-other k j m (x .is-found) (omega arith) ∙ go (bit-cases j m)
+  where
+    go : (bitAt j m ≡ 0) ⊎ (bitAt j m ≡ 1) → bitAt j m ≡ 0
+    go (inl f) = f
+    go (inr f) = absurd (let z : ⊥ = omega (arith, p .later j k l (x .place) e f, x .is-found) in z)
+
 -- putting the last found member back makes a proper byte
 pub back-proper : {s : List ℕ} {m a k : ℕ} → Proper s m → LastFound s m a k → Proper s (m + 2 ^ k)
 back-proper {s} {m} {a} {k} p x = record { below = set-lt (length s) k m (x .place) (p .below) (x .is-found); later = places }
@@ -465,6 +466,16 @@ back-proper {s} {m} {a} {k} p x = record { below = set-lt (length s) k m (x .pla
     places : (i j : ℕ) → i < j → j < length s → getD s i 0 ≡ getD s j 0 → bitAt i (m + 2 ^ k) ≡ 1 → bitAt j (m + 2 ^ k) ≡ 1
     places i j l h e f = go i j l h e f (ℕ-discrete i k) (ℕ-discrete j k)
 
+-- taking it again tells the rest that was
+pub back-rest : {s : List ℕ} {m a k : ℕ} → Proper s m → LastFound s m a k → without a (restOf s (m + 2 ^ k)) ≡ restOf s m
+back-rest {s} {m} {a} {k} p x =
+    ap (λ b. without b (restOf s (m + 2 ^ k))) (sym (x .member))
+    ∙ (sym (rest-clear s (m + 2 ^ k) k (x .place) (set-here k m (x .is-found)) (back-earlier p x)) ∙ ap (restOf s) (set-clear k m))
+
+-- and gives the byte that was
+pub back-mask : {s : List ℕ} {m a k : ℕ} → Proper s m → LastFound s m a k → mask s (without a (restOf s (m + 2 ^ k))) ≡ m
+back-mask {s} p x = ap (mask s) (back-rest p x) ∙ mask-restOf p
+
 -- it may be taken again, if no member that bars it is left
 pub back-takeable : {g : Grammar} {s : List ℕ} {m a k : ℕ} → LastFound s m a k → bitAnd (m + 2 ^ k) (barsOf g s k) ≡ 0 → Takeable g s (m + 2 ^ k) k
 back-takeable {g} {s} {m} {a} {k} x u = record { place = x .place; is-left = set-here k m (x .is-found); unbarred = u }
@@ -472,10 +483,24 @@ back-takeable {g} {s} {m} {a} {k} x u = record { place = x .place; is-left = set
 -- a member that was taken is the last found of its equals
 pub take-last : {g : Grammar} {s : List ℕ} {m k : ℕ} → Proper s m → Takeable g s m k → LastFound s (m - 2 ^ k) (getD s k 0) k
 take-last {g} {s} {m} {k} p t = record {
-      place = t .place;
-      member = refl;
-      is-found = clear-here k m (t .is-left);
-      later = λ j l h e. clear-other k j m (t .is-left) (omega arith) ∙ p .later k j l h (sym e) (t .is-left) }
+  place = t .place;
+  member = refl;
+  is-found = clear-here k m (t .is-left);
+  later = λ j l h e. clear-other k j m (t .is-left) (omega arith) ∙ p .later k j l h (sym e) (t .is-left);
+}
+
+-- the symbol may be taken again exactly if no member that bars it is left
+pub back-may : (g : Grammar) {s : List ℕ} {m a k : ℕ} → Proper s m → LastFound s m a k
+    → (mayTake g a (restOf s (m + 2 ^ k)) ≡ true) ↔ (bitAnd (m + 2 ^ k) (barsOf g s k) ≡ 0)
+back-may g {s} {m} {a} {k} p x = (λ h. there (may-back g s (m + 2 ^ k) a h), λ u. rw (← x .member) (may (back-takeable {g = g} x u)))
+  where
+    go : (j : ℕ) → Takeable g s (m + 2 ^ k) j → getD s j 0 ≡ getD s k 0 → Dec (j < k) → Dec (k < j) → j ≡ k
+    go j t e (yes l) d = absurd (let z : ⊥ = omega (arith, back-earlier p x j l e, t .is-left) in z)
+    go j t e (no n) (yes l) = absurd (let z : ⊥ = omega (arith, takeable-first t k l (sym e), set-here k m (x .is-found)) in z)
+    go j t e (no n) (no l) = omega arith
+
+    there : (j : ℕ) × Takeable g s (m + 2 ^ k) j × (getD s j 0 ≡ a) → bitAnd (m + 2 ^ k) (barsOf g s k) ≡ 0
+    there (j, t, e) = ap (λ i. bitAnd (m + 2 ^ k) (barsOf g s i)) (sym (go j t (e ∙ sym (x .member)) (decLt j k) (decLt k j))) ∙ t .unbarred
 
 last-cast : {s : List ℕ} {n m b a k : ℕ} → n ≡ m → b ≡ a → LastFound s n b k → LastFound s m a k
 last-cast {s} {n} {m} {b} {a} {k} e f x = rw (← e, ← f) x
@@ -504,3 +529,94 @@ taken-once {g} {s} {a} {n} {o} {m} p x y =
     let (k, l, u, e) = taken-exactly g s a n m p .0 x in
     let (j, h, v, f) = taken-exactly g s a o m p .0 y in
     e ∙ (ap (λ i. m + 2 ^ i) (last-once l h) ∙ sym f)
+
+-- ## Entries and words
+
+pub proper-byte : (g : Grammar) → IsGrammar g → {h m : ℕ} → h < ruleCount g → Proper (members g h) m → m < 256
+proper-byte g is {h} {m} l p =
+    let k : 2 ^ length (members g h) ≤ 2 ^ 8 = pow-le-pow-right (omega arith) (is .few-members h l) in
+    omega (arith, p .below)
+
+pub word-entry : (g : Grammar) (h i : ℕ) {m : ℕ} → Proper (members g h) m → word g (entryWith g h i m) ≡ h * 65536 + i * 256 + m
+unfolding word
+word-entry g h i p = ap (λ b. h * 65536 + i * 256 + b) (mask-restOf p)
+
+pub entryOf-byte : (g : Grammar) → IsGrammar g → (h i : ℕ) {m : ℕ} → h < ruleCount g → i < 256 → Proper (members g h) m
+    → entryOf g (h * 65536 + i * 256 + m) ≡ entryWith g h i m
+entryOf-byte g is h i {m} l k p =
+    ap (entryOf g) (sym (word-entry g h i p)) ∙ entryOf-word g is (entryWith g h i m) l k (proper-listed p)
+
+-- the word of a fresh entry has a bit for every member
+pub word-fresh : (g : Grammar) (h i : ℕ) → word g (fresh g h i) ≡ h * 65536 + i * 256 + (2 ^ length (members g h) - 1)
+unfolding word
+word-fresh g h i = ap (λ b. h * 65536 + i * 256 + b) (mask-all (members g h))
+
+-- taking a member clears its bit in the word
+pub word-taking : (g : Grammar) (h i : ℕ) {m k : ℕ} → Proper (members g h) m → Takeable g (members g h) m k
+    → word g (taking (getD (members g h) k 0) (entryWith g h i m)) ≡ h * 65536 + i * 256 + (m - 2 ^ k)
+unfolding word
+word-taking g h i p t = ap (λ b. h * 65536 + i * 256 + b) (take-mask p t)
+
+-- an entry is finished exactly if its byte is 0
+pub finished-byte : (g : Grammar) (h i : ℕ) {m : ℕ} → Proper (members g h) m → (finished (entryWith g h i m) ≡ true) ↔ (m ≡ 0)
+unfolding finished
+finished-byte g h i {m} p = (
+  λ e. zero-ones m .0 (sym (rest-length p) ∙ eqb-true (length (restOf (members g h) m)) 0 e),
+  λ e. eq-eqb (length (restOf (members g h) m)) 0 (rest-length p ∙ zero-ones m .1 e),
+)
+
+-- every entry that a list can have has a byte
+pub possible-byte : {g : Grammar} {j : ℕ} {e : Entry} → Possible g j e → HasByte g e (mask (members g (e .rule)) (e .rest))
+unfolding word
+possible-byte {g} {j} {e} p =
+    record {
+      proper = mask-proper (members g (e .rule)) (e .rest);
+      is-entry = λ i. record { rule = e .rule; origin = e .origin; rest = restOf-mask (members g (e .rule)) (p .listed) i };
+      is-word = refl;
+    }
+
+-- so has every entry that the steps find
+pub found-byte : {g : Grammar} {row : List ℕ} {j : ℕ} {e : Entry} → Found g row j e → HasByte g e (mask (members g (e .rule)) (e .rest))
+found-byte f = possible-byte (found-possible f)
+
+-- and every entry that stands
+pub stands-byte : {g : Grammar} {row : List ℕ} {j : ℕ} {e : Entry} → Stands g row j e → HasByte g e (mask (members g (e .rule)) (e .rest))
+stands-byte s = possible-byte (stands-possible s)
+
+-- the byte tells the entry's rest
+pub byte-rest : {g : Grammar} {e : Entry} {m : ℕ} → HasByte g e m → restOf (members g (e .rule)) m ≡ e .rest
+byte-rest b = λ i. b .is-entry i .rest
+
+-- an entry has one byte
+pub byte-once : {g : Grammar} {e : Entry} {m n : ℕ} → HasByte g e m → HasByte g e n → m ≡ n
+byte-once b c = proper-same (b .proper) (c .proper) (byte-rest b ∙ sym (byte-rest c))
+
+-- the byte of a fresh entry has a bit for every member
+pub fresh-byte : (g : Grammar) (h i : ℕ) → HasByte g (fresh g h i) (2 ^ length (members g h) - 1)
+fresh-byte g h i =
+    record {
+      proper = full-proper (members g h);
+      is-entry = λ k. record { rule = h; origin = i; rest = full-rest (members g h) k };
+      is-word = word-fresh g h i;
+    }
+
+-- taking a member clears its bit
+pub taking-byte : {g : Grammar} {e : Entry} {m k : ℕ} → HasByte g e m → Takeable g (members g (e .rule)) m k
+    → HasByte g (taking (getD (members g (e .rule)) k 0) e) (m - 2 ^ k)
+unfolding word
+taking-byte {g} {e} {m} {k} b t =
+    record {
+      proper = take-proper (b .proper) t;
+      is-entry = λ i. record { rule = e .rule; origin = e .origin; rest = taken i };
+      is-word = ap (λ n. e .rule * 65536 + e .origin * 256 + n) (ap (mask (members g (e .rule))) (sym taken) ∙ mask-restOf (take-proper (b .proper) t));
+    }
+  where
+    taken : restOf (members g (e .rule)) (m - 2 ^ k) ≡ without (getD (members g (e .rule)) k 0) (e .rest)
+    taken = take-rest t ∙ ap (without (getD (members g (e .rule)) k 0)) (byte-rest b)
+
+-- the word of what a list up to 64 can have is read back as the entry
+pub possible-word : (g : Grammar) → IsGrammar g → {j : ℕ} {e : Entry} → j ≤ 64 → Possible g j e → entryOf g (word g e) ≡ e
+possible-word g is {j} {e} l p = entryOf-word g is e (p .is-rule) (omega (arith, p .origin-le)) (p .listed)
+
+pub found-word : (g : Grammar) → IsGrammar g → {row : List ℕ} {j : ℕ} {e : Entry} → j ≤ 64 → Found g row j e → entryOf g (word g e) ≡ e
+found-word g is l f = possible-word g is l (found-possible f)

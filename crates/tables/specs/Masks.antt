@@ -3,14 +3,14 @@
 use mathlib.Core.Path.{_≡_}
 use mathlib.Core.Bool.{true}
 use mathlib.Core.List.{List}
-use Prim.Native.Nat.{ℕ, _^_, _<_}
+use Prim.Native.Nat.{ℕ, _+_, _*_, _^_, _<_}
 use lib.ListN.{length, getD}
 use lib.Bits.{bitAnd}
 use Rattle.paper.specs.Bits.{bitAt}
 use Rattle.paper.specs.Multiset.{without}
-use Rattle.paper.specs.Grammar.{Grammar}
-use Rattle.paper.specs.Entry.{mayTake}
-use Rattle.paper.specs.Sheet.{mask, restOf}
+use Rattle.paper.specs.Grammar.{Grammar, members}
+use Rattle.paper.specs.Entry.{Entry, mayTake}
+use Rattle.paper.specs.Sheet.{mask, word, restOf}
 use Rattle.tables.specs.Table.{barsOf}
 
 -- The byte m tells a rest of the members s: it has a bit for each member only, and "Of equal members the first written is found first": where a member
@@ -37,3 +37,13 @@ pub record TakenFrom (g : Grammar) (s : List ℕ) (a n m : ℕ) : Type 0 where
   pub proper : Proper s n
   pub may : mayTake g a (restOf s n) ≡ true
   pub becomes : mask s (without a (restOf s n)) ≡ m
+
+-- the entry of rule h and origin i with the rest that the byte m tells
+abbrev pub entryWith : Grammar → ℕ → ℕ → ℕ → Entry
+entryWith g h i m = record { rule = h; origin = i; rest = restOf (members g h) m }
+
+-- The byte m is proper, and e is the entry that has it.
+pub record HasByte (g : Grammar) (e : Entry) (m : ℕ) : Type 0 where
+  pub proper : Proper (members g (e .rule)) m
+  pub is-entry : entryWith g (e .rule) (e .origin) m ≡ e
+  pub is-word : word g e ≡ e .rule * 65536 + e .origin * 256 + m
