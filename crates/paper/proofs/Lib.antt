@@ -13,7 +13,6 @@ pub mod Words
 pub mod Universe
 pub mod Building
 pub mod Unique
-pub mod Pigeonhole
 pub mod Lines
 pub mod Spans
 pub mod Outcome

@@ -14,6 +14,7 @@ use Rattle.paper.specs.declared.Counts.{Counts}
 use Rattle.paper.specs.declared.Reading.{Reading}
 use Rattle.paper.specs.declared.Checking.{Checking}
 use Rattle.paper.specs.declared.Bracketing.{Bracketing}
+use Rattle.paper.proofs.Unique.{sheet-unique}
 
 -- the first line at fault is one
 first-unique : {P : ℕ → Type 0} (j k : ℕ) → ((i : ℕ) → i < j → P i) → (P j → ⊥) → ((i : ℕ) → i < k → P i) → (P k → ⊥) → j ≡ k
@@ -122,56 +123,54 @@ counts-path p q r s = λ i. record { entries = p i; steps = q i; lines = r i; to
 buffers-path : {s t : Buffers} → s .sheet ≡ t .sheet → s .starts ≡ t .starts → s .lines ≡ t .lines → s ≡ t
 buffers-path p q r = λ i. record { sheet = p i; starts = q i; lines = r i }
 
--- That a row has one sheet is taken as given here: its proof is about entries, and this file is about outcomes.
-module _ (sheet-unique : (g : Grammar) (row : List ℕ) (s t : Sheet) → IsSheet g row s → IsSheet g row t → s ≡ t) where
-  -- where one outcome has the sheet in its buffer, no other says that the sheet does not fit
-  fits-not-over : {image row : List ℕ} {entry exit : Buffers} {counts : Counts} (b : Built image row entry exit counts) (sheet : Sheet) → IsSheet (grammarOf image) row sheet
-      → length (entry .sheet) < entries sheet → ⊥
-  fits-not-over {image} {row} b sheet is over =
-      let e : entries (b .sheet) ≡ entries sheet = ap entries (sheet-unique (grammarOf image) row (b .sheet) sheet (b .is-sheet) is) in
-      omega (arith, b .fits)
+-- where one outcome has the sheet in its buffer, no other says that the sheet does not fit
+fits-not-over : {image row : List ℕ} {entry exit : Buffers} {counts : Counts} (b : Built image row entry exit counts) (sheet : Sheet) → IsSheet (grammarOf image) row sheet
+    → length (entry .sheet) < entries sheet → ⊥
+fits-not-over {image} {row} b sheet is over =
+    let e : entries (b .sheet) ≡ entries sheet = ap entries (sheet-unique (b .is-sheet) is) in
+    omega (arith, b .fits)
 
-  module _ {image row : List ℕ} {entry exit exit′ : Buffers} {counts counts′ : Counts} (b : Built image row entry exit counts) (c : Built image row entry exit′ counts′) where
-    same-sheet : b .sheet ≡ c .sheet
-    same-sheet = sheet-unique (grammarOf image) row (b .sheet) (c .sheet) (b .is-sheet) (c .is-sheet)
+module _ {image row : List ℕ} {entry exit exit′ : Buffers} {counts counts′ : Counts} (b : Built image row entry exit counts) (c : Built image row entry exit′ counts′) where
+  same-sheet : b .sheet ≡ c .sheet
+  same-sheet = sheet-unique (b .is-sheet) (c .is-sheet)
 
-    same-read : {x y : Reading} → x ≡ Reading.Read counts → y ≡ Reading.Read counts′ → SameReading x y exit exit′
-    same-read e f =
-        let s = same-sheet in
-        record {
-          number = rw (e, f);
-          entries = rw (e, f) (cc);
-          steps = rw (e, f) (cc);
-          tops = rw (e, f) (cc);
-          sheet = cc;
-          starts = cc;
-          answer = λ n. absurd (n (rw e));
-          lines = λ n. absurd (n (rw e));
-        }
+  same-read : {x y : Reading} → x ≡ Reading.Read counts → y ≡ Reading.Read counts′ → SameReading x y exit exit′
+  same-read e f =
+      let s = same-sheet in
+      record {
+        number = rw (e, f);
+        entries = rw (e, f) (cc);
+        steps = rw (e, f) (cc);
+        tops = rw (e, f) (cc);
+        sheet = cc;
+        starts = cc;
+        answer = λ n. absurd (n (rw e));
+        lines = λ n. absurd (n (rw e));
+      }
 
-    same-unread : {x y : Reading} → counts .lines ≡ counts′ .lines → exit .lines ≡ exit′ .lines → x ≡ Reading.Unread counts → y ≡ Reading.Unread counts′
-        → SameReading x y exit exit′
-    same-unread p q e f =
-        let s = same-sheet in
-        let k : counts ≡ counts′ = counts-path (cc) (cc) p (cc) in
-        same-all (cc) (buffers-path (cc) (cc) q)
+  same-unread : {x y : Reading} → counts .lines ≡ counts′ .lines → exit .lines ≡ exit′ .lines → x ≡ Reading.Unread counts → y ≡ Reading.Unread counts′
+      → SameReading x y exit exit′
+  same-unread p q e f =
+      let s = same-sheet in
+      let k : counts ≡ counts′ = counts-path (cc) (cc) p (cc) in
+      same-all (cc) (buffers-path (cc) (cc) q)
 
-  -- reading answers one thing, and leaves one thing in its buffers, the lines of a row that is read apart
-  pub reading-unique : {image row : List ℕ} {entry : Buffers} {x y : Reading} {s t : Buffers}
-      → ReadingOutcome image row entry x s → ReadingOutcome image row entry y t → SameReading x y s t
-  reading-unique (ReadingOutcome.refused r e p) (ReadingOutcome.refused r′ f q) = same-all (cc) (cc)
-  reading-unique (ReadingOutcome.refused r e p) (ReadingOutcome.overfull n sheet is over f q) = absurd (r n)
-  reading-unique (ReadingOutcome.refused r e p) (ReadingOutcome.read counts n b l ns v k fits q f) = absurd (r n)
-  reading-unique (ReadingOutcome.refused r e p) (ReadingOutcome.unread counts n b l k q f) = absurd (r n)
-  reading-unique (ReadingOutcome.overfull n sheet is over e p) (ReadingOutcome.refused r f q) = absurd (r n)
-  reading-unique (ReadingOutcome.overfull n sheet is over e p) (ReadingOutcome.overfull n′ sheet′ is′ over′ f q) = same-all (cc) (cc)
-  reading-unique (ReadingOutcome.overfull n sheet is over e p) (ReadingOutcome.read counts n′ b l ns v k fits q f) = absurd (fits-not-over b sheet is over)
-  reading-unique (ReadingOutcome.overfull n sheet is over e p) (ReadingOutcome.unread counts n′ b l k q f) = absurd (fits-not-over b sheet is over)
-  reading-unique (ReadingOutcome.read counts n b l ns v k fits p e) (ReadingOutcome.refused r f q) = absurd (r n)
-  reading-unique (ReadingOutcome.read counts n b l ns v k fits p e) (ReadingOutcome.overfull n′ sheet is over f q) = absurd (fits-not-over b sheet is over)
-  reading-unique (ReadingOutcome.read counts n b l ns v k fits p e) (ReadingOutcome.read counts′ n′ b′ l′ ns′ v′ k′ fits′ q f) = same-read b b′ e f
-  reading-unique (ReadingOutcome.read counts n b l ns v k fits p e) (ReadingOutcome.unread counts′ n′ b′ l′ k′ q f) = absurd (l′ l)
-  reading-unique (ReadingOutcome.unread counts n b l k p e) (ReadingOutcome.refused r f q) = absurd (r n)
-  reading-unique (ReadingOutcome.unread counts n b l k p e) (ReadingOutcome.overfull n′ sheet is over f q) = absurd (fits-not-over b sheet is over)
-  reading-unique (ReadingOutcome.unread counts n b l k p e) (ReadingOutcome.read counts′ n′ b′ l′ ns′ v′ k′ fits′ q f) = absurd (l l′)
-  reading-unique (ReadingOutcome.unread counts n b l k p e) (ReadingOutcome.unread counts′ n′ b′ l′ k′ q f) = same-unread b b′ (cc) (cc) e f
+-- reading answers one thing, and leaves one thing in its buffers, the lines of a row that is read apart
+pub reading-unique : {image row : List ℕ} {entry : Buffers} {x y : Reading} {s t : Buffers}
+    → ReadingOutcome image row entry x s → ReadingOutcome image row entry y t → SameReading x y s t
+reading-unique (ReadingOutcome.refused r e p) (ReadingOutcome.refused r′ f q) = same-all (cc) (cc)
+reading-unique (ReadingOutcome.refused r e p) (ReadingOutcome.overfull n sheet is over f q) = absurd (r n)
+reading-unique (ReadingOutcome.refused r e p) (ReadingOutcome.read counts n b l ns v k fits q f) = absurd (r n)
+reading-unique (ReadingOutcome.refused r e p) (ReadingOutcome.unread counts n b l k q f) = absurd (r n)
+reading-unique (ReadingOutcome.overfull n sheet is over e p) (ReadingOutcome.refused r f q) = absurd (r n)
+reading-unique (ReadingOutcome.overfull n sheet is over e p) (ReadingOutcome.overfull n′ sheet′ is′ over′ f q) = same-all (cc) (cc)
+reading-unique (ReadingOutcome.overfull n sheet is over e p) (ReadingOutcome.read counts n′ b l ns v k fits q f) = absurd (fits-not-over b sheet is over)
+reading-unique (ReadingOutcome.overfull n sheet is over e p) (ReadingOutcome.unread counts n′ b l k q f) = absurd (fits-not-over b sheet is over)
+reading-unique (ReadingOutcome.read counts n b l ns v k fits p e) (ReadingOutcome.refused r f q) = absurd (r n)
+reading-unique (ReadingOutcome.read counts n b l ns v k fits p e) (ReadingOutcome.overfull n′ sheet is over f q) = absurd (fits-not-over b sheet is over)
+reading-unique (ReadingOutcome.read counts n b l ns v k fits p e) (ReadingOutcome.read counts′ n′ b′ l′ ns′ v′ k′ fits′ q f) = same-read b b′ e f
+reading-unique (ReadingOutcome.read counts n b l ns v k fits p e) (ReadingOutcome.unread counts′ n′ b′ l′ k′ q f) = absurd (l′ l)
+reading-unique (ReadingOutcome.unread counts n b l k p e) (ReadingOutcome.refused r f q) = absurd (r n)
+reading-unique (ReadingOutcome.unread counts n b l k p e) (ReadingOutcome.overfull n′ sheet is over f q) = absurd (fits-not-over b sheet is over)
+reading-unique (ReadingOutcome.unread counts n b l k p e) (ReadingOutcome.read counts′ n′ b′ l′ ns′ v′ k′ fits′ q f) = absurd (l l′)
+reading-unique (ReadingOutcome.unread counts n b l k p e) (ReadingOutcome.unread counts′ n′ b′ l′ k′ q f) = same-unread b b′ (cc) (cc) e f

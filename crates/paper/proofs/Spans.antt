@@ -16,7 +16,7 @@ use borrow.Author.Tests.{eqb-true, eqb-false, ltb-true, ltb-false}
 use Rattle.paper.specs.Grammar.{Grammar, IsGrammar}
 use Rattle.paper.specs.Price.{linesBound}
 use Rattle.paper.specs.Lines.{lineSize, lineCount, lineFrom, lineTo, lineParts, partSlots, lineSymbol, Joins, LineRight, Uses, Valid}
-use Rattle.paper.proofs.Pigeonhole.{NoRepeats, pigeonhole}
+use Rattle.paper.proofs.Lists.{Distinct, pigeonhole}
 use Rattle.paper.proofs.Lines.{earlier-first}
 
 -- from one place to another
@@ -190,10 +190,10 @@ node-line g ns (suc k) (List·Memᴰ·head e) = (k, omega arith, e)
 node-line g ns (suc k) (List·Memᴰ·tail at) = let r = node-line g ns k at in (r .0, omega (arith, r .1), r .2)
 
 -- no two lines share left symbol and span
-nodes-once : {g : Grammar} {row ns : List ℕ} (k : ℕ) → ((i : ℕ) → i < k → LineRight g row ns i) → NoRepeats (nodesBelow g ns k)
+nodes-once : {g : Grammar} {row ns : List ℕ} (k : ℕ) → ((i : ℕ) → i < k → LineRight g row ns i) → Distinct (nodesBelow g ns k)
 unfolding nodesBelow
-nodes-once zero right = NoRepeats.none
-nodes-once {g} {row} {ns} (suc k) right = NoRepeats.more (λ at. new (node-line g ns k at)) (nodes-once k (λ i h. right i (omega arith)))
+nodes-once zero right = tt
+nodes-once {g} {row} {ns} (suc k) right = (λ at. new (node-line g ns k at), nodes-once k (λ i h. right i (omega arith)))
   where
     new : (i : ℕ) × (i < k) × (lineNode g ns k ≡ lineNode g ns i) → ⊥
     new r = right k (omega arith) .unshared (r .0) (r .1) (ap (λ x. x .symbol) (sym (r .2))) (ap (λ x. x .over .from) (sym (r .2))) (ap (λ x. x .over .to) (sym (r .2)))
@@ -308,7 +308,7 @@ valid-bound {g} {row} {ns} is valid = within-bound g (length row) (lineCount ns)
         omega (
           arith,
           length-nodesBelow g ns (lineCount ns),
-          pigeonhole (nodesOver (g .terminals) (g .nonterminals) (s .spans)) (nodes-once (lineCount ns) (valid .each)) inside,
+          pigeonhole (nodesBelow g ns (lineCount ns)) (nodesOver (g .terminals) (g .nonterminals) (s .spans)) (nodes-once (lineCount ns) (valid .each)) inside,
           length-nodesOver (g .terminals) (g .nonterminals) (s .spans),
           mul-le-mul-left (g .nonterminals) (s .few),
         )

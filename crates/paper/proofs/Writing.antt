@@ -12,6 +12,7 @@ use Rattle.paper.specs.Grammar.{Grammar, IsGrammar, IsRow, ruleCount, le
 use Rattle.paper.specs.Derivation.{Acceptable}
 use Rattle.paper.specs.Tree.{Tree, Parts}
 use Rattle.paper.specs.Lines.{lineSize, lineCount, lineFrom, lineTo, lineSymbol, Joins, Valid}
+use Rattle.paper.proofs.Trees.{parts-span}
 use Rattle.paper.proofs.LineNumbers.{Extends, extends-refl, extends-append, extends-trans, kept, lineOf, reads-back}
 use Rattle.paper.proofs.LineTable.{Table, HasLine, Used, has-line-kept, has-line-before, used-kept, find-line, add-line}
 
@@ -28,16 +29,6 @@ abbrev mutual
   heights : {g : Grammar} {row : List ℕ} {s : List ℕ} {i j : ℕ} → Parts g row s i j → ℕ
   heights (Parts.done b) = 0
   heights (Parts.part tree parts) = max (height tree) (heights parts)
-
--- a tree goes forward and ends within the row
-mutual
-  tree-span : {g : Grammar} {row : List ℕ} {a i j : ℕ} → Tree g row a i j → (i ≤ j) × (j ≤ length row)
-  tree-span (Tree.token b e) = (omega arith, b)
-  tree-span (Tree.node h b e arranged acceptable parts) = parts-span parts
-
-  parts-span : {g : Grammar} {row : List ℕ} {s : List ℕ} {i j : ℕ} → Parts g row s i j → (i ≤ j) × (j ≤ length row)
-  parts-span (Parts.done b) = (omega arith, b)
-  parts-span (Parts.part tree parts) = let x = tree-span tree in let y = parts-span parts in (omega arith, y .1)
 
 -- a tree of height f at the most
 record LowTree (g : Grammar) (row : List ℕ) (f a i j : ℕ) : Type 0 where
