@@ -6,6 +6,7 @@ pub mod Seeking
 pub mod Machine
 pub mod Theorem7
 pub mod Standing
+pub mod Sums
 pub mod Lists
 pub mod Closure
 pub mod SubMultisets
@@ -13,6 +14,8 @@ pub mod Words
 pub mod Universe
 pub mod Building
 pub mod Unique
+pub mod SheetBounds
+pub mod Theorem1
 pub mod Lines
 pub mod Spans
 pub mod Outcome

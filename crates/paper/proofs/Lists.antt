@@ -5,11 +5,12 @@ use mathlib.Core.Logic.{_⊎_, inl, inr}
 use mathlib.Core.Bool.{Bool, true, false, cond}
 use mathlib.Core.List.{List, [], _∷_, _++_, List·Memᴰ, map, flatMap, List·Memᴰ·not-nil, List·Memᴰ·cases-cons, List·Memᴰ·append-cases, Memᴰ·cast, Memᴰ·append-left, Memᴰ·append-right}
 use mathlib.Core.List.List·Memᴰ.{List·Memᴰ·head, List·Memᴰ·tail}
-use Prim.Native.Nat.{ℕ, zero, suc, _≤_, _<_}
+use Prim.Native.Nat.{ℕ, zero, suc, _+_, _≤_, _<_}
 use native.Mathlib.Omega.{arith}
 use native.Mathlib.Decide.{decLt}
 use lib.ListN.{length}
 use Rattle.paper.specs.Multiset.{keep}
+use Rattle.paper.specs.Sheet.{sum}
 use Rattle.paper.specs.Building.{below}
 
 -- ---- members
@@ -97,9 +98,10 @@ module _ {A : Type 0} where
   less (List·Memᴰ·head {xs = s} e) = s
   less (List·Memᴰ·tail {x = y} m) = y ∷ less m
 
-  length-less : {x : A} {s : List A} (m : List·Memᴰ x s) → suc (length (less m)) ≡ length s
-  length-less (List·Memᴰ·head e) = refl
-  length-less (List·Memᴰ·tail m) = ap suc (length-less m)
+  sum-less : (weight : A → ℕ) {x : A} {s : List A} (m : List·Memᴰ x s) → weight x + sum weight (less m) ≡ sum weight s
+  unfolding sum
+  sum-less weight (List·Memᴰ·head {xs = s} e) = ap (λ y. weight y + sum weight s) e
+  sum-less weight (List·Memᴰ·tail m) = omega (arith, sum-less weight m)
 
   less-other : {x y : A} {s : List A} (m : List·Memᴰ x s) → List·Memᴰ y s → (y ≡ x → ⊥) → List·Memᴰ y (less m)
   less-other {x} {y} (List·Memᴰ·head {x = z} {xs = s} e) n ne = go (List·Memᴰ·cases-cons n)
@@ -113,13 +115,23 @@ module _ {A : Type 0} where
       go (inl q) ih = List·Memᴰ·head q
       go (inr k) ih = List·Memᴰ·tail (ih k)
 
-  -- the pigeonhole: a list without repeats inside another is no longer than that
-  pub pigeonhole : (s t : List A) → Distinct s → ((x : A) → List·Memᴰ x s → List·Memᴰ x t) → length s ≤ length t
-  pigeonhole [] t d h = omega arith
-  pigeonhole (x ∷ s) t d h =
+  -- the pigeonhole, for members of any weight: a list without repeats inside another weighs no more than that
+  pub pigeonhole-sum : (weight : A → ℕ) (s t : List A) → Distinct s → ((x : A) → List·Memᴰ x s → List·Memᴰ x t) → sum weight s ≤ sum weight t
+  unfolding sum
+  pigeonhole-sum weight [] t d h = omega arith
+  pigeonhole-sum weight (x ∷ s) t d h =
       let m = h x (List·Memᴰ·head refl) in
-      let k : length s ≤ length (less m) = pigeonhole s (less m) (d .1) (λ y n. less-other m (h y (List·Memᴰ·tail n)) (λ e. d .0 (Memᴰ·cast (sym e) n))) in
-      omega (arith, length-less m)
+      let k : sum weight s ≤ sum weight (less m) = pigeonhole-sum weight s (less m) (d .1) (λ y n. less-other m (h y (List·Memᴰ·tail n)) (λ e. d .0 (Memᴰ·cast (sym e) n))) in
+      omega (arith, sum-less weight m)
+
+  length-sum : (s : List A) → length s ≡ sum (λ x. 1) s
+  unfolding sum
+  length-sum [] = refl
+  length-sum (x ∷ s) = omega (arith, length-sum s)
+
+  -- and it is no longer
+  pub pigeonhole : (s t : List A) → Distinct s → ((x : A) → List·Memᴰ x s → List·Memᴰ x t) → length s ≤ length t
+  pigeonhole s t d h = omega (arith, length-sum s, length-sum t, pigeonhole-sum (λ x. 1) s t d h)
 
   pub distinct-append : (s t : List A) → Distinct s → Distinct t → ((x : A) → List·Memᴰ x s → List·Memᴰ x t → ⊥) → Distinct (s ++ t)
   distinct-append [] t d e apart = e

@@ -9,7 +9,8 @@ use Rattle.paper.specs.Grammar.{Grammar}
 use Rattle.paper.specs.Sheet.{Sheet, IsSheet, listAt, word}
 use Rattle.paper.proofs.Closure.{Climbs, ascending-climbs, climbs-same}
 
-sheet-climbs : {g : Grammar} {row : List ℕ} {s : Sheet} → IsSheet g row s → (j : ℕ) → Climbs 0 (map (word g) (listAt s j))
+-- the words of each list ascend
+pub sheet-climbs : {g : Grammar} {row : List ℕ} {s : Sheet} → IsSheet g row s → (j : ℕ) → Climbs 0 (map (word g) (listAt s j))
 sheet-climbs {g} {row} {s} p j = ascending-climbs 0 (map (word g) (listAt s j)) (λ i l. omega arith) (p .ascending j)
 
 -- two sheets of one grammar and row are equal

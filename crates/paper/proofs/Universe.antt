@@ -48,11 +48,11 @@ possible-same g is j l e f p q w = word-same g is e f (p .is-rule) (q .is-rule) 
 
 -- ---- the list of them
 
-abbrev entry : ℕ → ℕ → List ℕ → Entry
+abbrev pub entry : ℕ → ℕ → List ℕ → Entry
 entry h i r = record { rule = h; origin = i; rest = r }
 
 -- rule h with each of the rests and each origin below n
-withOrigins : ℕ → List (List ℕ) → ℕ → List Entry
+unfoldable pub withOrigins : ℕ → List (List ℕ) → ℕ → List Entry
 withOrigins h listed zero = []
 withOrigins h listed (suc i) = map (entry h i) listed ++ withOrigins h listed i
 
@@ -83,7 +83,7 @@ pub universe-size : (g : Grammar) (j : ℕ) → length (universe g j) ≡ rests 
 unfolding universe rests
 universe-size g j = length-withRules 0 (suc j) (g .rules)
 
-withOrigins-has : (h i : ℕ) {r : List ℕ} (listed : List (List ℕ)) (n : ℕ) → i < n → List·Memᴰ r listed → List·Memᴰ (entry h i r) (withOrigins h listed n)
+pub withOrigins-has : (h i : ℕ) {r : List ℕ} (listed : List (List ℕ)) (n : ℕ) → i < n → List·Memᴰ r listed → List·Memᴰ (entry h i r) (withOrigins h listed n)
 unfolding withOrigins
 withOrigins-has h i listed zero l m = absurd (let z : ⊥ = omega arith in z)
 withOrigins-has h i {r} listed (suc n) l m = go (decLt i n) (λ k. withOrigins-has h i listed n k m)
