@@ -28,11 +28,11 @@ or-right false y h = h
 neither : (x y : Bool) → x ≡ false → y ≡ false → (x || y) ≡ false
 neither x y e f = rw (e, f)
 
-and-left : (x y : Bool) → (x && y) ≡ true → x ≡ true
+pub and-left : (x y : Bool) → (x && y) ≡ true → x ≡ true
 and-left true y h = refl
 and-left false y h = h
 
-and-right : (x y : Bool) → (x && y) ≡ true → y ≡ true
+pub and-right : (x y : Bool) → (x && y) ≡ true → y ≡ true
 and-right true y h = h
 and-right false y h = let z : _≡_ {A = ℕ} 0 1 = cc in absurd (let k : ⊥ = omega arith in k)
 

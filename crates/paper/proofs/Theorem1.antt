@@ -1,11 +1,12 @@
 -- The sheet exists, and 000's theorem 1: a row has a top exactly if it is in the language.
 -- Assumes nothing.
-use mathlib.Core.Path.{_≡_, refl, sym, _∙_, ap}
+use mathlib.Core.Path.{_≡_, refl, sym, _∙_, subst₂}
 use mathlib.Core.Logic.{_↔_}
 use mathlib.Core.Bool.{true, _&&_}
 use mathlib.Core.List.{List, [], _++_, List·Memᴰ, append-nil}
 use Prim.Native.Nat.{ℕ, _≤_, _<_}
 use native.Mathlib.Omega.{arith}
+use lib.Dec.{eqb}
 use lib.ListN.{length}
 use borrow.Author.Tests.{eqb-true, eq-eqb}
 use Rattle.paper.specs.Multiset.{Arrangement, minus}
@@ -16,8 +17,8 @@ use Rattle.paper.specs.Entry.{Entry, Stands, finished}
 use Rattle.paper.specs.Sheet.{Sheet, listAt, IsSheet, isTop, tops}
 use Rattle.paper.specs.Building.{sheetOf}
 use Rattle.paper.proofs.Multiset.{arranged-refl, arranged-sym, arranged-nil}
-use Rattle.paper.proofs.Machine.{arranged-minus}
-use Rattle.paper.proofs.Theorem7.{StandsByTrees, finished-rest, finished-tree}
+use Rattle.paper.proofs.Machine.{and-left, and-right, arranged-minus}
+use Rattle.paper.proofs.Theorem7.{finished-rest, finished-tree}
 use Rattle.paper.proofs.Standing.{stands-by-trees, theorem-7, language-tree}
 use Rattle.paper.proofs.Building.{sheet-lists, sheet-ascending, sheet-found}
 use Rattle.paper.proofs.Sums.{mem-many, many-mem}
@@ -30,7 +31,7 @@ sheet-exists g row is short =
       lists = sheet-lists g row;
       exact = λ j e.
         let found = sheet-found g row is short j e in
-        let stands = theorem-7 {g} {row} {j} {e} (is .order) in
+        let stands = theorem-7 {g = g} {row = row} {j = j} {e = e} (is .order) in
         (λ m. stands .0 (found .0 m), λ s. found .1 (stands .1 s));
       ascending = sheet-ascending g row is short;
     }
@@ -40,7 +41,11 @@ sheet-exists g row is short =
 -- a top is a finished entry of the start symbol with origin 0
 top-parts : (g : Grammar) (e : Entry) → isTop g e ≡ true → (e .rest ≡ []) × (e .origin ≡ 0) × (left g (e .rule) ≡ g .start)
 unfolding isTop
-top-parts g e t = ?
+top-parts g e t =
+    let u = and-right (finished e) (eqb (e .origin) 0 && eqb (left g (e .rule)) (g .start)) t in
+    (finished-rest e (and-left (finished e) (eqb (e .origin) 0 && eqb (left g (e .rule)) (g .start)) t)
+    , eqb-true (e .origin) 0 (and-left (eqb (e .origin) 0) (eqb (left g (e .rule)) (g .start)) u)
+    , eqb-true (left g (e .rule)) (g .start) (and-right (eqb (e .origin) 0) (eqb (left g (e .rule)) (g .start)) u))
 
 top-is : (g : Grammar) (h : ℕ) → left g h ≡ g .start → isTop g (entry h 0 []) ≡ true
 unfolding isTop finished
@@ -49,9 +54,9 @@ top-is g h e = rw (eq-eqb (left g h) (g .start) e)
 module _ {g : Grammar} {row : List ℕ} where
   -- a top that stands on the last list is a tree of the row
   top-tree : (e : Entry) → Stands g row (length row) e → isTop g e ≡ true → Tree g row (g .start) 0 (length row)
-  top-tree e s t = 
+  top-tree e s t =
       let p = top-parts g e t in
-      rw (← p .1, ← p .2) (finished-tree (stands-by-trees .0 s) (p .0))
+      subst₂ (λ a i. Tree g row a i (length row)) (p .2) (p .1) (finished-tree (stands-by-trees .0 s) (p .0))
 
   -- a rule of the start symbol whose parts read the whole row is an entry that stands
   whole-stands : (h : ℕ) {s : List ℕ} → h < ruleCount g → left g h ≡ g .start → Arrangement s (members g h) → Acceptable g s → Parts g row s 0 (length row)
@@ -76,7 +81,8 @@ module _ {g : Grammar} {row : List ℕ} where
   -- a tree of the row as the start symbol has a top: the start symbol is no token
   tree-top : IsGrammar g → IsRow g row → {a i j : ℕ} → Tree g row a i j → a ≡ g .start → i ≡ 0 → j ≡ length row → (e : Entry) × Stands g row (length row) e × (isTop g e ≡ true)
   tree-top is is-row (Tree.token {i = i} l e) p q r = absurd (let z : ⊥ = omega (arith, is .start-is .above, is-row .tokens-are i l .below) in z)
-  tree-top is is-row (Tree.node h l e a c parts) p q r = ?
+  tree-top is is-row (Tree.node {s = s} h l e a c parts) p q r =
+      (entry h 0 [], whole-stands h l (e ∙ p) a c (subst₂ (Parts g row s) q r parts), top-is g h (e ∙ p))
 
   -- 000, theorem 1: the last list has a top exactly if the row is in the language
   pub theorem-1 : {sheet : Sheet} → IsGrammar g → IsRow g row → IsSheet g row sheet → (1 ≤ tops g row sheet) ↔ InLanguage g row
