@@ -27,3 +27,4 @@ pub mod Order
 pub mod Image
 pub mod Written
 pub mod Admitted
+pub mod Demands

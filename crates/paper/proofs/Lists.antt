@@ -8,7 +8,7 @@ use mathlib.Core.List.List·Memᴰ.{List·Memᴰ·head, List·Memᴰ·tail}
 use Prim.Native.Nat.{ℕ, zero, suc, _+_, _≤_, _<_}
 use native.Mathlib.Omega.{arith}
 use native.Mathlib.Decide.{decLt}
-use lib.ListN.{length}
+use lib.ListN.{length, getD}
 use Rattle.paper.specs.Multiset.{keep}
 use Rattle.paper.specs.Sheet.{sum}
 use Rattle.paper.specs.Building.{below}
@@ -66,6 +66,12 @@ module _ {A B : Type 0} where
       go : List·Memᴰ y (f a) ⊎ List·Memᴰ y (flatMap f s) → (List·Memᴰ y (flatMap f s) → (x : A) × List·Memᴰ x s × List·Memᴰ y (f x)) → (x : A) × List·Memᴰ x (a ∷ s) × List·Memᴰ y (f x)
       go (inl n) ih = (a, List·Memᴰ·head refl, n)
       go (inr n) ih = let r = ih n in (r .0, List·Memᴰ·tail (r .1), r .2)
+
+-- what stands at a place of a list is a member of it; d stands past its end
+pub place-mem : {A : Type 0} (d : A) (s : List A) (k : ℕ) → k < length s → List·Memᴰ (getD s k d) s
+place-mem d [] k l = absurd (let z : ⊥ = omega arith in z)
+place-mem d (x ∷ s) zero l = List·Memᴰ·head refl
+place-mem d (x ∷ s) (suc k) l = List·Memᴰ·tail (place-mem d s k (omega arith))
 
 pub mem-below : (h n : ℕ) → h < n → List·Memᴰ h (below n)
 unfolding below
@@ -140,6 +146,12 @@ module _ {A : Type 0} where
       go : List·Memᴰ x s ⊎ List·Memᴰ x t → ⊥
       go (inl m) = d .0 m
       go (inr m) = apart x (List·Memᴰ·head refl) m
+
+  pub distinct-places : (d : A) (s : List A) (i j : ℕ) → Distinct s → i < j → j < length s → getD s i d ≡ getD s j d → ⊥
+  distinct-places d [] i j h l k e = let z : ⊥ = omega arith in z
+  distinct-places d (x ∷ s) i zero h l k e = let z : ⊥ = omega arith in z
+  distinct-places d (x ∷ s) zero (suc j) h l k e = h .0 (Memᴰ·cast e (place-mem d s j (omega arith)))
+  distinct-places d (x ∷ s) (suc i) (suc j) h l k e = distinct-places d s i j (h .1) (omega arith) (omega arith) e
 
   pub distinct-keep : (p : A → Bool) (s : List A) → Distinct s → Distinct (keep p s)
   unfolding keep

@@ -10,6 +10,7 @@ use Rattle.paper.specs.Sheet.{Sheet, IsSheet, entries}
 use Rattle.paper.specs.Image.{grammarOf}
 use Rattle.paper.specs.Lines.{LineRight, Judged}
 use Rattle.paper.specs.Outcome.{Buffers, Built, readingNumber, readingCounts, ReadingOutcome, CheckingOutcome, BracketingOutcome, ViewOutcome}
+use Rattle.paper.specs.Demands.{SameReading}
 use Rattle.paper.specs.declared.Counts.{Counts}
 use Rattle.paper.specs.declared.Reading.{Reading}
 use Rattle.paper.specs.declared.Checking.{Checking}
@@ -89,18 +90,6 @@ view-unique (ViewOutcome.seen n v l e p) (ViewOutcome.refused r f q) = absurd (r
 view-unique (ViewOutcome.seen n v l e p) (ViewOutcome.invalid n′ v′ f q) = absurd (v′ v)
 view-unique (ViewOutcome.seen n v l e p) (ViewOutcome.absent n′ v′ l′ f q) = absurd (let z : ⊥ = omega arith in z)
 view-unique (ViewOutcome.seen n v l e p) (ViewOutcome.seen n′ v′ l′ f q) = ((cc), (cc))
-
--- What two outcomes of one reading have in common. For a row that is read, only the validity of the lines is fixed: neither they nor their count need be equal.
-pub record SameReading (x y : Reading) (s t : Buffers) : Type 0 where
-  pub number : readingNumber x ≡ readingNumber y
-  pub entries : readingCounts x .entries ≡ readingCounts y .entries
-  pub steps : readingCounts x .steps ≡ readingCounts y .steps
-  pub tops : readingCounts x .tops ≡ readingCounts y .tops
-  pub sheet : s .sheet ≡ t .sheet
-  pub starts : s .starts ≡ t .starts
-  -- refused or unread: all of the answer, and the lines too
-  pub answer : (readingNumber x ≡ 0 → ⊥) → x ≡ y
-  pub lines : (readingNumber x ≡ 0 → ⊥) → s .lines ≡ t .lines
 
 -- equal answers and equal buffers have everything in common
 same-all : {x y : Reading} {s t : Buffers} → x ≡ y → s ≡ t → SameReading x y s t

@@ -1,4 +1,4 @@
--- 000, theorem 7, in the words of document 01: the steps find an entry exactly if it stands; and theorem 1, a row has a top exactly if it is in the language.
+-- 000, theorem 7, in the words of document 01: the steps find an entry exactly if it stands. And a row is in the language exactly if it has a tree.
 -- Assumes nothing.
 use mathlib.Core.Logic.{_↔_}
 use mathlib.Core.List.{List}

@@ -9,10 +9,11 @@ use Prim.Native.Nat.{ℕ, _+_, _≤_, _<_}
 use native.Mathlib.Omega.{arith}
 use native.Mathlib.Decide.{decLe, ℕ-discrete}
 use lib.Dec.{eqb}
+use lib.ListN.{length, getD}
 use borrow.Author.Tests.{eqb-true, eqb-false, eq-eqb, ne-eqb}
 use Rattle.paper.specs.Multiset.{bit, count, Arrangement, has, without, minus, keep, subMultisets}
 use Rattle.paper.proofs.Multiset.{count-self, count-other, count-has, count-without, arranged-cons, arranged-uncons, arranged-sym, arranged-trans, arranged-without}
-use Rattle.paper.proofs.Lists.{mem-keep, keep-mem, map-mem, Distinct, distinct-append, distinct-keep, distinct-map}
+use Rattle.paper.proofs.Lists.{mem-keep, keep-mem, map-mem, place-mem, Distinct, distinct-append, distinct-places, distinct-keep, distinct-map}
 
 -- r is listed as a sub-multiset of s
 abbrev pub Listed : List ℕ → List ℕ → Type 0
@@ -145,17 +146,17 @@ listed-exists (a ∷ s) t h = go (decLe (count a t) (count a s)) (λ u. listed-e
         let e : count a (x .0) ≡ count a s = omega (arith, x .2 .counts a, count-without a a t (there k), h a, count-self a s, ap bit (eq-eqb a a refl)) in
         (a ∷ x .0, listed-present a s (x .1) e, arranged-trans (arranged-sym (arranged-without a t (there k))) (arranged-cons a (x .2)))
 
--- 01, "distinct sub-multisets": every list that has no symbol more often than the members is an arrangement of exactly one that is listed
-pub listed-once : (s t : List ℕ) → ((b : ℕ) → count b t ≤ count b s) → (r : List ℕ) × Listed r s × Arrangement t r × ((q : List ℕ) → Listed q s → Arrangement t q → q ≡ r)
-listed-once s t h =
-    let x = listed-exists s t h in
-    (x .0, x .1, x .2, λ q m k. listed-same s m (x .1) (arranged-trans (arranged-sym k) (x .2)))
-
 -- no two that are listed are equal
-pub listed-distinct : (s : List ℕ) → Distinct (subMultisets s)
+listed-distinct : (s : List ℕ) → Distinct (subMultisets s)
 unfolding subMultisets
 listed-distinct [] = (λ m. List·Memᴰ·not-nil m, tt)
 listed-distinct (a ∷ s) =
     distinct-append (subMultisets s) (map (a ∷_) (full a s)) (listed-distinct s)
       (distinct-map (a ∷_) (λ x y e. cc) (full a s) (distinct-keep (λ r. eqb (count a r) (count a s)) (subMultisets s) (listed-distinct s)))
       (λ x m n. let p = present-mem a s n in omega (arith, listed-count a s m, ap (count a) (p .r-is), count-self a (p .q), p .every))
+
+-- no two places have the same sub-multiset, in whatever order
+pub listed-once : (s : List ℕ) (i j : ℕ) → i < j → j < length (subMultisets s) → Arrangement (getD (subMultisets s) i []) (getD (subMultisets s) j []) → ⊥
+listed-once s i j l k same =
+    distinct-places [] (subMultisets s) i j (listed-distinct s) l k
+      (listed-same s (place-mem [] (subMultisets s) i (omega arith)) (place-mem [] (subMultisets s) j k) same)

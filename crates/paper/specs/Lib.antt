@@ -12,3 +12,4 @@ pub mod Outcome
 pub mod Building
 pub mod Records
 pub mod Written
+pub mod Demands
