@@ -169,13 +169,13 @@ module _ (g : Grammar) where
       unfolding nextList
       next-seeds x n =
           close-keeps (word g) (consequences g m sheet) (suc (rests g * suc m)) first
-            (insertAll-has (word g) (Found g row m) same (seeds g row sheet m) [] (seeds-found sheet m within sound) (λ y k. absurd (List·Memᴰ·not-nil k)) n)
+          (insertAll-has (word g) (Found g row m) same (seeds g row sheet m) [] (seeds-found sheet m within sound) (λ y k. absurd (List·Memᴰ·not-nil k)) n)
 
       next-closed : Every (λ x. List·Memᴰ x (nextList g row m sheet)) (consequences g m sheet (nextList g row m sheet))
       unfolding nextList
       next-closed =
           close-closed (word g) (consequences g m sheet) (Found g row m) same (universe g m) (λ x f. universe-has g m x (found-possible f)) (consequences-found sheet m len sound)
-            (suc (rests g * suc m)) first (omega (arith, universe-size g m)) first-climbs first-found
+          (suc (rests g * suc m)) first (omega (arith, universe-size g m)) first-climbs first-found
 
     -- ---- the first m lists
 
@@ -198,7 +198,8 @@ module _ (g : Grammar) where
       begins = λ l. absurd (let z : ⊥ = omega arith in z);
       scans = λ j e n. absurd (List·Memᴰ·not-nil n);
       predicts = λ j h e n. absurd (List·Memᴰ·not-nil n);
-      completes = λ j e f n. absurd (List·Memᴰ·not-nil n) }
+      completes = λ j e f n. absurd (List·Memᴰ·not-nil n);
+    }
 
     module _ (is : IsGrammar g) (sheet : Sheet) (m : ℕ) (done : Done m sheet) (within : m ≤ length row) (short : length row ≤ 64) where
       abbrev new : List Entry
@@ -237,7 +238,7 @@ module _ (g : Grammar) where
       more-predicts : (j h : ℕ) (e : Entry) → List·Memᴰ e (listAt (seen sheet new) j) → h < ruleCount g → mayTake g (left g h) (e .rest) ≡ true → List·Memᴰ (fresh g h j) (listAt (seen sheet new) j)
       more-predicts =
           grown (λ j s. (h : ℕ) (e : Entry) → List·Memᴰ e s → h < ruleCount g → mayTake g (left g h) (e .rest) ≡ true → List·Memᴰ (fresh g h j) s) sheet new m (done .lists)
-            (λ j l. done .predicts j) (λ h e n l t. closed (fresh g h m) (predict-consequence m h e sheet new n l t)) (λ j h e n. absurd (List·Memᴰ·not-nil n))
+          (λ j l. done .predicts j) (λ h e n l t. closed (fresh g h m) (predict-consequence m h e sheet new n l t)) (λ j h e n. absurd (List·Memᴰ·not-nil n))
 
       old-completes : (j : ℕ) → j < m → (e f : Entry) → List·Memᴰ e (listAt (seen sheet new) (f .origin)) → List·Memᴰ f (listAt sheet j) → finished f ≡ true
           → mayTake g (left g (f .rule)) (e .rest) ≡ true → List·Memᴰ (taking (left g (f .rule)) e) (listAt sheet j)
@@ -249,8 +250,8 @@ module _ (g : Grammar) where
           → mayTake g (left g (f .rule)) (e .rest) ≡ true → List·Memᴰ (taking (left g (f .rule)) e) (listAt (seen sheet new) j)
       more-completes =
           grown (λ j s. (e f : Entry) → List·Memᴰ e (listAt (seen sheet new) (f .origin)) → List·Memᴰ f s → finished f ≡ true → mayTake g (left g (f .rule)) (e .rest) ≡ true
-            → List·Memᴰ (taking (left g (f .rule)) e) s) sheet new m (done .lists)
-            old-completes (λ e f n k d t. closed (taking (left g (f .rule)) e) (complete-consequence m f sheet new n k d t)) (λ j e f n k. absurd (List·Memᴰ·not-nil k))
+          → List·Memᴰ (taking (left g (f .rule)) e) s) sheet new m (done .lists)
+          old-completes (λ e f n k d t. closed (taking (left g (f .rule)) e) (complete-consequence m f sheet new n k d t)) (λ j e f n k. absurd (List·Memᴰ·not-nil k))
 
       done-more : Done (suc m) (seen sheet new)
       done-more = record {
@@ -260,7 +261,8 @@ module _ (g : Grammar) where
         begins = λ l. more-begins;
         scans = more-scans;
         predicts = more-predicts;
-        completes = more-completes }
+        completes = more-completes;
+      }
 
     done-first : IsGrammar g → length row ≤ 64 → (m : ℕ) → m ≤ suc (length row) → Done m (firstLists g row m)
     unfolding firstLists

@@ -44,14 +44,14 @@ pub record Kept (before after : List ℕ) (k : ℕ) : Type 0 where
 
 -- The whole lines of the front stay as they are.
 pub kept : {before after : List ℕ} → Extends before after → (n k : ℕ) → length before ≡ lineSize * n → k < n → Kept before after k
-kept d n k l h = record
-  { rule = kept-number d (lineSize * k) (omega arith)
-  ; from = kept-number d (lineSize * k + 1) (omega arith)
-  ; to = kept-number d (lineSize * k + 2) (omega arith)
-  ; parts = kept-number d (lineSize * k + 3) (omega arith)
-  ; slot = λ x b. kept-number d (lineSize * k + 4 + x) (omega arith)
-  ; slots = λ m b. kept-part d (lineSize * k + 4) m (omega arith)
-  }
+kept d n k l h = record {
+  rule = kept-number d (lineSize * k) (omega arith);
+  from = kept-number d (lineSize * k + 1) (omega arith);
+  to = kept-number d (lineSize * k + 2) (omega arith);
+  parts = kept-number d (lineSize * k + 3) (omega arith);
+  slot = λ x b. kept-number d (lineSize * k + 4 + x) (omega arith);
+  slots = λ m b. kept-part d (lineSize * k + 4) m (omega arith);
+}
 
 -- a line as twelve numbers: rule, from, to, how many parts, and their slots with zeros up to eight
 unfoldable pub lineOf : ℕ → ℕ → ℕ → List ℕ → List ℕ
@@ -95,12 +95,12 @@ unfolding lineOf
 reads-back ns n rule from to slots l =
     let zeros : List ℕ = replicate (8 - length slots) 0 in
     let line : List ℕ = rule ∷ from ∷ to ∷ length slots ∷ (slots ++ zeros) in
-    record
-    { rule-is = behind ns line (lineSize * n) 0 (omega arith)
-    ; from-is = behind ns line (lineSize * n + 1) 1 (omega arith)
-    ; to-is = behind ns line (lineSize * n + 2) 2 (omega arith)
-    ; parts-are = behind ns line (lineSize * n + 3) 3 (omega arith)
-    ; past = λ x h b. behind ns line (lineSize * n + 4 + x) (suc (suc (suc (suc x)))) (omega arith) ∙ padded-past slots x h b
-    ; slot = λ x h. behind ns line (lineSize * n + 4 + x) (suc (suc (suc (suc x)))) (omega arith) ∙ List·getD-append slots zeros 0 x h
-    ; slots-are = slots-back ns line n (lineParts (ns ++ line) n) slots zeros l (behind ns line (lineSize * n + 3) 3 (omega arith)) refl
+    record {
+      rule-is = behind ns line (lineSize * n) 0 (omega arith);
+      from-is = behind ns line (lineSize * n + 1) 1 (omega arith);
+      to-is = behind ns line (lineSize * n + 2) 2 (omega arith);
+      parts-are = behind ns line (lineSize * n + 3) 3 (omega arith);
+      past = λ x h b. behind ns line (lineSize * n + 4 + x) (suc (suc (suc (suc x)))) (omega arith) ∙ padded-past slots x h b;
+      slot = λ x h. behind ns line (lineSize * n + 4 + x) (suc (suc (suc (suc x)))) (omega arith) ∙ List·getD-append slots zeros 0 x h;
+      slots-are = slots-back ns line n (lineParts (ns ++ line) n) slots zeros l (behind ns line (lineSize * n + 3) 3 (omega arith)) refl;
     }

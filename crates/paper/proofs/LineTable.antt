@@ -58,19 +58,19 @@ line-kept : {g : Grammar} {row before after : List ℕ} (n k : ℕ) → IsGramma
 line-kept {g} {row} {before} {after} n k is l d h r =
     let same = kept d n k l h in
     let few = few-parts is r in
-    record
-    { rule-is = rw (same .rule) (r .rule-is)
-    ; parts-are = rw (same .parts, same .rule) (r .parts-are)
-    ; span = rw (same .from, same .to) (r .span)
-    ; within = rw (same .to) (r .within)
-    ; past = λ x p q. same .slot x q ∙ r .past x (rw (same .parts) at p) q
-    ; symbols = r .symbols
-    ; joins = rw (same .parts, same .slots (lineParts before k) few, same .from, same .to) (joins-kept n k l d (omega arith) (omega arith) (r .joins))
-    ; arranged = rw (same .rule) (r .arranged)
-    ; acceptable = r .acceptable
-    ; unshared = λ i b s f t.
-        let other = kept d n i l (omega arith) in
-        r .unshared i b (sym (ap (left g) (other .rule)) ∙ (s ∙ ap (left g) (same .rule))) (sym (other .from) ∙ (f ∙ same .from)) (sym (other .to) ∙ (t ∙ same .to))
+    record {
+      rule-is = rw (same .rule) (r .rule-is);
+      parts-are = rw (same .parts, same .rule) (r .parts-are);
+      span = rw (same .from, same .to) (r .span);
+      within = rw (same .to) (r .within);
+      past = λ x p q. same .slot x q ∙ r .past x (rw (same .parts) at p) q;
+      symbols = r .symbols;
+      joins = rw (same .parts, same .slots (lineParts before k) few, same .from, same .to) (joins-kept n k l d (omega arith) (omega arith) (r .joins));
+      arranged = rw (same .rule) (r .arranged);
+      acceptable = r .acceptable;
+      unshared = λ i b s f t.
+          let other = kept d n i l (omega arith) in
+          r .unshared i b (sym (ap (left g) (other .rule)) ∙ (s ∙ ap (left g) (same .rule))) (sym (other .from) ∙ (f ∙ same .from)) (sym (other .to) ∙ (t ∙ same .to));
     }
 
 -- A line that is in the table stays in it, under its number,
@@ -78,12 +78,12 @@ unfoldable pub has-line-kept : {g : Grammar} {row before after : List ℕ} {n a 
     → HasLine g before n a i j → HasLine g after m a i j
 has-line-kept {g} {n = n} m t d b h =
     let same = kept d n (h .line) (t .whole) (h .below) in
-    record
-    { line = h .line
-    ; below = omega arith
-    ; symbol-is = ap (left g) (same .rule) ∙ h .symbol-is
-    ; from-is = same .from ∙ h .from-is
-    ; to-is = same .to ∙ h .to-is
+    record {
+      line = h .line;
+      below = omega arith;
+      symbol-is = ap (left g) (same .rule) ∙ h .symbol-is;
+      from-is = same .from ∙ h .from-is;
+      to-is = same .to ∙ h .to-is;
     }
 
 -- one that is found later under a number of the front was there before,
@@ -91,12 +91,12 @@ pub has-line-before : {g : Grammar} {row before after : List ℕ} {n m a i j : �
     → (h : HasLine g after m a i j) → h .line < n → HasLine g before n a i j
 has-line-before {g} {n = n} t d h b =
     let same = kept d n (h .line) (t .whole) b in
-    record
-    { line = h .line
-    ; below = b
-    ; symbol-is = sym (ap (left g) (same .rule)) ∙ h .symbol-is
-    ; from-is = sym (same .from) ∙ h .from-is
-    ; to-is = sym (same .to) ∙ h .to-is
+    record {
+      line = h .line;
+      below = b;
+      symbol-is = sym (ap (left g) (same .rule)) ∙ h .symbol-is;
+      from-is = sym (same .from) ∙ h .from-is;
+      to-is = sym (same .to) ∙ h .to-is;
     }
 
 -- and a line that is used stays used.
@@ -106,11 +106,11 @@ used-kept {n = n} m is t d b u =
     let same = kept d n (u .by) (t .whole) (u .below) in
     let few = few-parts is (t .right (u .by) (u .below)) in
     let v = u .uses in
-    record
-    { by = u .by
-    ; behind = u .behind
-    ; below = omega arith
-    ; uses = record { slot = v .slot; is-part = rw (same .parts) (v .is-part); names = same .slot (v .slot) (omega (arith, v .is-part)) ∙ v .names }
+    record {
+      by = u .by;
+      behind = u .behind;
+      below = omega arith;
+      uses = record { slot = v .slot; is-part = rw (same .parts) (v .is-part); names = same .slot (v .slot) (omega (arith, v .is-part)) ∙ v .names };
     }
 
 -- a line among the first n + 1 that is not among the first n is line n
@@ -138,7 +138,6 @@ find-line g ns a i j (suc n) = find-step (find-line g ns a i j n) (ℕ-discrete 
 module _ {g : Grammar} {row ns : List ℕ} {n i j : ℕ} {slots s : List ℕ} (h : ℕ) (is : IsGrammar g) (table : Table g row ns n)
     (rule-is : h < ruleCount g) (span : i ≤ j) (within : j ≤ length row) (joins : Joins g row ns n slots i j s)
     (arranged : Arrangement s (members g h)) (acceptable : Acceptable g s) (none : HasLine g ns n (left g h) i j → ⊥) where
-
   parts-are : length slots ≡ length (members g h)
   parts-are = joins-length joins ∙ arranged-length s (members g h) arranged
 
@@ -147,20 +146,20 @@ module _ {g : Grammar} {row ns : List ℕ} {n i j : ℕ} {slots s : List ℕ} (h
   new-line =
       let back = reads-back ns n h i j slots (table .whole) in
       let d = extends-append ns (lineOf h i j slots) in
-      record
-      { rule-is = rw (back .rule-is) rule-is
-      ; parts-are = rw (back .parts-are, back .rule-is) parts-are
-      ; span = rw (back .from-is, back .to-is) span
-      ; within = rw (back .to-is) within
-      ; past = λ x p q. back .past x (rw (back .parts-are) at p) q
-      ; symbols = s
-      ; joins = rw (back .slots-are, back .from-is, back .to-is) (joins-kept n n (table .whole) d (omega arith) (omega arith) joins)
-      ; arranged = rw (back .rule-is) arranged
-      ; acceptable = acceptable
-      ; unshared = λ k b e f t.
-          let l : HasLine g (ns ++ lineOf h i j slots) n (left g h) i j =
-                record { line = k; below = b; symbol-is = e ∙ ap (left g) (back .rule-is); from-is = f ∙ back .from-is; to-is = t ∙ back .to-is } in
-          none (has-line-before table d l b)
+      record {
+        rule-is = rw (back .rule-is) rule-is;
+        parts-are = rw (back .parts-are, back .rule-is) parts-are;
+        span = rw (back .from-is, back .to-is) span;
+        within = rw (back .to-is) within;
+        past = λ x p q. back .past x (rw (back .parts-are) at p) q;
+        symbols = s;
+        joins = rw (back .slots-are, back .from-is, back .to-is) (joins-kept n n (table .whole) d (omega arith) (omega arith) joins);
+        arranged = rw (back .rule-is) arranged;
+        acceptable = acceptable;
+        unshared = λ k b e f t.
+            let l : HasLine g (ns ++ lineOf h i j slots) n (left g h) i j =
+            record { line = k; below = b; symbol-is = e ∙ ap (left g) (back .rule-is); from-is = f ∙ back .from-is; to-is = t ∙ back .to-is } in
+            none (has-line-before table d l b);
       }
 
   -- and those before it stay so

@@ -152,24 +152,30 @@ record Inserted (g : Grammar) (b : ℕ) (t : List ℕ) : Type 0 where
 -- b in front, if it must precede the head: what must precede b must by transitivity precede the head too, and nothing behind the head does
 inserted-front : {g : Grammar} → StrictPartialOrder (g .precedes) → (b c : ℕ) (t : List ℕ) → Acceptable g (c ∷ t) → g .precedes b c ≡ true → Inserted g b (c ∷ t)
 inserted-front {g} o b c t h e =
-    record { sequence = b ∷ (c ∷ t)
-           ; arranged = arranged-refl (b ∷ (c ∷ t))
-           ; acceptable = acceptable-cons (each-unbarred g b (c ∷ t) free) h }
+    record {
+      sequence = b ∷ (c ∷ t);
+      arranged = arranged-refl (b ∷ (c ∷ t));
+      acceptable = acceptable-cons (each-unbarred g b (c ∷ t) free) h;
+    }
   where
     head-free : barred g c (c ∷ t) ≡ false
     head-free = unbarred-cons g c c t (o .irreflexive c) (acceptable-head h)
+
     decide : (d : ℕ) (x : Bool) → g .precedes d b ≡ x → g .precedes d c ≡ false → x ≡ false
     decide d true f k = absurd (unlike (o .transitive d b c f e) k)
     decide d false f k = refl
+
     free : (d : ℕ) → has d (c ∷ t) ≡ true → g .precedes d b ≡ false
     free d m = decide d (g .precedes d b) refl (unbarred-each g c d (c ∷ t) head-free m)
 
 -- b somewhere behind the head, if it need not precede it
 inserted-behind : {g : Grammar} → (b c : ℕ) (t : List ℕ) → Acceptable g (c ∷ t) → g .precedes b c ≡ false → Inserted g b t → Inserted g b (c ∷ t)
 inserted-behind {g} b c t h e r =
-    record { sequence = c ∷ r .sequence
-           ; arranged = arranged-trans (arranged-cons c (r .arranged)) (arranged-turn c b t)
-           ; acceptable = acceptable-cons (unbarred-arranged g c (r .arranged) (unbarred-cons g c b t e (acceptable-head h))) (r .acceptable) }
+    record {
+      sequence = c ∷ r .sequence;
+      arranged = arranged-trans (arranged-cons c (r .arranged)) (arranged-turn c b t);
+      acceptable = acceptable-cons (unbarred-arranged g c (r .arranged) (unbarred-cons g c b t e (acceptable-head h))) (r .acceptable);
+    }
 
 inserted : {g : Grammar} → StrictPartialOrder (g .precedes) → (b : ℕ) (t : List ℕ) → Acceptable g t → Inserted g b t
 inserted {g} o b [] h =
@@ -263,8 +269,8 @@ unfolding minus
 all-taken-acceptable g [] rest m k h = h
 all-taken-acceptable g (a ∷ s) rest m k h =
     taken-acceptable g a rest (all-taken-head g a s rest m)
-        (all-taken-arranged g s (without a rest) (all-taken-tail g a s rest m) k)
-        (all-taken-acceptable g s (without a rest) (all-taken-tail g a s rest m) k h)
+    (all-taken-arranged g s (without a rest) (all-taken-tail g a s rest m) k)
+    (all-taken-acceptable g s (without a rest) (all-taken-tail g a s rest m) k h)
 
 -- symbols may be taken in turn exactly if, followed by some arrangement of what is left, they are acceptable
 pub taken-in-turn : {g : Grammar} → StrictPartialOrder (g .precedes) → (s rest : List ℕ)

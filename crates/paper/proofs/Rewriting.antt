@@ -59,8 +59,15 @@ module _ {g : Grammar} where
 
   step-between : (u : List ℕ) {s t : List ℕ} (v : List ℕ) → Step g s t → Step g (u ++ (s ++ v)) (u ++ (t ++ v))
   step-between u v x =
-      record { before = u ++ x .before; symbol = x .symbol; behind = x .behind ++ v; sequence = x .sequence
-        ; whole-is = rw (x .whole-is) (simp append-assoc); next-is = rw (x .next-is) (simp append-assoc); yields = x .yields }
+      record {
+        before = u ++ x .before;
+        symbol = x .symbol;
+        behind = x .behind ++ v;
+        sequence = x .sequence;
+        whole-is = rw (x .whole-is) (simp append-assoc);
+        next-is = rw (x .next-is) (simp append-assoc);
+        yields = x .yields;
+      }
 
   -- what symbols derive, they derive between other symbols too
   pub derives-between : (u : List ℕ) {s t : List ℕ} (v : List ℕ) → Derives g s t → Derives g (u ++ (s ++ v)) (u ++ (t ++ v))

@@ -38,8 +38,13 @@ module _ {g : Grammar} {row : List ℕ} where
       let regrouped : w .before ++ ((s ++ (a ∷ t)) ++ w .behind) ≡ (w .before ++ s) ++ (a ∷ (t ++ w .behind)) = simp append-assoc in
       let step = more (yields-step (w .before) (w .behind) y) (derives-same regrouped) in
       let z = parts-span p in
-      record { before = w .before ++ s; behind = t ++ w .behind; place-le = z .1; sought = derives-trans (w .sought) step
-        ; before-derives = rw (slice-join row 0 i k (omega arith) (z .0) (z .1)) at (derives-append (w .before-derives) (parts-derives p)) }
+      record {
+        before = w .before ++ s;
+        behind = t ++ w .behind;
+        place-le = z .1;
+        sought = derives-trans (w .sought) step;
+        before-derives = rw (slice-join row 0 i k (omega arith) (z .0) (z .1)) at (derives-append (w .before-derives) (parts-derives p));
+      }
 
   -- a symbol looked for at a place stands in a sequence that the start symbol derives, all before it deriving the tokens up to that place
   pub sought-derives : {a i : ℕ} → Sought g row a i → Awaited g row a i

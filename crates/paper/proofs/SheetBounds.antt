@@ -42,7 +42,7 @@ completeBound-exact c n =
     let q : n + 2 ≡ suc (suc n) = omega arith in
     let r : n + 3 ≡ suc (suc (suc n)) = omega arith in
     rw (p, q, r, mul-assoc c (suc n) (suc (suc n)), mul-assoc c (suc n * suc (suc n)) (suc (suc (suc n))))
-      (exact-division c 6 (pyramid (suc n)) (suc n * suc (suc n) * suc (suc (suc n))) (omega arith) (pyramid-closed (suc n)))
+    (exact-division c 6 (pyramid (suc n)) (suc n * suc (suc n) * suc (suc (suc n))) (omega arith) (pyramid-closed (suc n)))
 
 -- ---- start steps, at most one per rule
 
@@ -70,16 +70,19 @@ length-below (suc n) = ap suc (length-below n)
 sum-finishedBelow : (weight : ℕ → ℕ) (rules n : ℕ) → sum (λ e. weight (e .origin)) (finishedBelow rules n) ≤ rules * sumBelow n weight
 unfolding finishedBelow
 sum-finishedBelow weight rules n =
-    omega (arith, sum-flatMap (λ e. weight (e .origin)) (λ h. withOrigins h ([] ∷ []) n) (below rules),
+    omega (
+      arith,
+      sum-flatMap (λ e. weight (e .origin)) (λ h. withOrigins h ([] ∷ []) n) (below rules),
       sum-at-most (λ h. sum (λ e. weight (e .origin)) (withOrigins h ([] ∷ []) n)) (sumBelow n weight) (below rules) (λ h. omega (arith, sum-withOrigins weight h n)),
-      ap (_* sumBelow n weight) (length-below rules))
+      ap (_* sumBelow n weight) (length-below rules),
+    )
 
 -- a finished entry is its rule and its origin
 finished-below : (e : Entry) (rules n : ℕ) → e .rule < rules → e .origin < n → finished e ≡ true → List·Memᴰ e (finishedBelow rules n)
 unfolding finishedBelow
 finished-below e rules n l k f =
     Memᴰ·cast (ap (entry (e .rule) (e .origin)) (finished-rest e f))
-      (mem-flatMap (λ h. withOrigins h ([] ∷ []) n) (below rules) (mem-below (e .rule) rules l) (withOrigins-has (e .rule) (e .origin) ([] ∷ []) n k (List·Memᴰ·head refl)))
+    (mem-flatMap (λ h. withOrigins h ([] ∷ []) n) (below rules) (mem-below (e .rule) rules l) (withOrigins-has (e .rule) (e .origin) ([] ∷ []) n k (List·Memᴰ·head refl)))
 
 -- how many complete steps a finished entry gives: one per entry that waits for its left symbol on the list of its origin
 abbrev completions : Grammar → Sheet → Entry → ℕ
@@ -112,17 +115,24 @@ module _ {g : Grammar} {row : List ℕ} {sheet : Sheet} (is : IsSheet g row shee
   scan-few : scanSteps g row sheet ≤ entries sheet
   unfolding scanSteps entries sumBelow
   scan-few =
-      omega (arith, sumBelow-le (length row) (λ j. many (λ e. mayTake g (getD row j 0) (e .rest)) (listAt sheet j)) (λ j. length (listAt sheet j))
-          (λ j l. many-le (λ e. mayTake g (getD row j 0) (e .rest)) (listAt sheet j)),
-        sum-places length [] sheet, ap (λ n. sumBelow n (λ j. length (listAt sheet j))) (is .lists))
+      omega (
+        arith,
+        sumBelow-le (length row) (λ j. many (λ e. mayTake g (getD row j 0) (e .rest)) (listAt sheet j)) (λ j. length (listAt sheet j))
+            (λ j l. many-le (λ e. mayTake g (getD row j 0) (e .rest)) (listAt sheet j)),
+        sum-places length [] sheet,
+        ap (λ n. sumBelow n (λ j. length (listAt sheet j))) (is .lists),
+      )
 
   -- predict: at most one per entry and rule
   predict-few : predictSteps g sheet ≤ entries sheet * ruleCount g
   unfolding predictSteps entries
   predict-few =
-      omega (arith, sum-mul length (ruleCount g) sheet,
+      omega (
+        arith,
+        sum-mul length (ruleCount g) sheet,
         sum-le (sum (λ e. many (λ r. mayTake g (r .left) (e .rest)) (g .rules))) (λ list. length list * ruleCount g) sheet
-          (λ list m. sum-at-most (λ e. many (λ r. mayTake g (r .left) (e .rest)) (g .rules)) (ruleCount g) list (λ e. many-le (λ r. mayTake g (r .left) (e .rest)) (g .rules))))
+            (λ list m. sum-at-most (λ e. many (λ r. mayTake g (r .left) (e .rest)) (g .rules)) (ruleCount g) list (λ e. many-le (λ r. mayTake g (r .left) (e .rest)) (g .rules))),
+      )
 
   -- complete: for a finished entry of origin i, at most the D(i+1) entries of list i
   waiting-few : (f : Entry) → completions g sheet f ≤ rests g * suc (f .origin)
@@ -141,16 +151,25 @@ module _ {g : Grammar} {row : List ℕ} {sheet : Sheet} (is : IsSheet g row shee
   complete-list : (j : ℕ) → sum (completions g sheet) (keep finished (listAt sheet j)) ≤ ruleCount g * rests g * triangle (suc j)
   unfolding triangle
   complete-list j =
-      omega (arith, sum-le (completions g sheet) (λ f. rests g * suc (f .origin)) (keep finished (listAt sheet j)) (λ f m. waiting-few f),
+      omega (
+        arith,
+        sum-le (completions g sheet) (λ f. rests g * suc (f .origin)) (keep finished (listAt sheet j)) (λ f m. waiting-few f),
         pigeonhole-sum (λ f. rests g * suc (f .origin)) (keep finished (listAt sheet j)) (finishedBelow (ruleCount g) (suc j)) (distinct-keep finished (listAt sheet j) (list-distinct j)) (finished-inside j),
-        sum-finishedBelow (λ i. rests g * suc i) (ruleCount g) (suc j), ap (ruleCount g *_) (sumBelow-mul (rests g) (suc j) suc), mul-assoc (ruleCount g) (rests g) (sumBelow (suc j) suc))
+        sum-finishedBelow (λ i. rests g * suc i) (ruleCount g) (suc j),
+        ap (ruleCount g *_) (sumBelow-mul (rests g) (suc j) suc),
+        mul-assoc (ruleCount g) (rests g) (sumBelow (suc j) suc),
+      )
 
   -- in all at most R·D·(n+1)(n+2)(n+3)/6
   complete-few : completeSteps g sheet ≤ ruleCount g * rests g * pyramid (suc (length row))
   unfolding completeSteps pyramid
   complete-few =
-      omega (arith, sum-map (sum (completions g sheet)) (keep finished) sheet, sum-lists (λ list. sum (completions g sheet) (keep finished list)) (λ j. ruleCount g * rests g * triangle (suc j)) complete-list,
-        sumBelow-mul (ruleCount g * rests g) (suc (length row)) (λ j. triangle (suc j)))
+      omega (
+        arith,
+        sum-map (sum (completions g sheet)) (keep finished) sheet,
+        sum-lists (λ list. sum (completions g sheet) (keep finished list)) (λ j. ruleCount g * rests g * triangle (suc j)) complete-list,
+        sumBelow-mul (ruleCount g * rests g) (suc (length row)) (λ j. triangle (suc j)),
+      )
 
   -- 01: "Steps are at most R + K + K·R + R·D·(n+1)(n+2)(n+3)/6."
   pub steps-bound : steps g row sheet ≤ stepsBound g (length row) (entries sheet)

@@ -152,11 +152,11 @@ unfolding subMultisets
 listed-distinct [] = (λ m. List·Memᴰ·not-nil m, tt)
 listed-distinct (a ∷ s) =
     distinct-append (subMultisets s) (map (a ∷_) (full a s)) (listed-distinct s)
-      (distinct-map (a ∷_) (λ x y e. cc) (full a s) (distinct-keep (λ r. eqb (count a r) (count a s)) (subMultisets s) (listed-distinct s)))
-      (λ x m n. let p = present-mem a s n in omega (arith, listed-count a s m, ap (count a) (p .r-is), count-self a (p .q), p .every))
+    (distinct-map (a ∷_) (λ x y e. cc) (full a s) (distinct-keep (λ r. eqb (count a r) (count a s)) (subMultisets s) (listed-distinct s)))
+    (λ x m n. let p = present-mem a s n in omega (arith, listed-count a s m, ap (count a) (p .r-is), count-self a (p .q), p .every))
 
 -- no two places have the same sub-multiset, in whatever order
 pub listed-once : (s : List ℕ) (i j : ℕ) → i < j → j < length (subMultisets s) → Arrangement (getD (subMultisets s) i []) (getD (subMultisets s) j []) → ⊥
 listed-once s i j l k same =
     distinct-places [] (subMultisets s) i j (listed-distinct s) l k
-      (listed-same s (place-mem [] (subMultisets s) i (omega arith)) (place-mem [] (subMultisets s) j k) same)
+    (listed-same s (place-mem [] (subMultisets s) i (omega arith)) (place-mem [] (subMultisets s) j k) same)

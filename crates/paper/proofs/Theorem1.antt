@@ -30,9 +30,9 @@ sheet-exists g row is short =
     record {
       lists = sheet-lists g row;
       exact = λ j e.
-        let found = sheet-found g row is short j e in
-        let stands = theorem-7 {g = g} {row = row} {j = j} {e = e} (is .order) in
-        (λ m. stands .0 (found .0 m), λ s. found .1 (stands .1 s));
+          let found = sheet-found g row is short j e in
+          let stands = theorem-7 {g = g} {row = row} {j = j} {e = e} (is .order) in
+          (λ m. stands .0 (found .0 m), λ s. found .1 (stands .1 s));
       ascending = sheet-ascending g row is short;
     }
 
@@ -42,10 +42,11 @@ sheet-exists g row is short =
 top-parts : (g : Grammar) (e : Entry) → isTop g e ≡ true → (e .rest ≡ []) × (e .origin ≡ 0) × (left g (e .rule) ≡ g .start)
 unfolding isTop
 top-parts g e t =
-    let u = and-right (finished e) (eqb (e .origin) 0 && eqb (left g (e .rule)) (g .start)) t in
-    (finished-rest e (and-left (finished e) (eqb (e .origin) 0 && eqb (left g (e .rule)) (g .start)) t)
-    , eqb-true (e .origin) 0 (and-left (eqb (e .origin) 0) (eqb (left g (e .rule)) (g .start)) u)
-    , eqb-true (left g (e .rule)) (g .start) (and-right (eqb (e .origin) 0) (eqb (left g (e .rule)) (g .start)) u))
+    let u = and-right (finished e) (eqb (e .origin) 0 && eqb (left g (e .rule)) (g .start)) t in (
+      finished-rest e (and-left (finished e) (eqb (e .origin) 0 && eqb (left g (e .rule)) (g .start)) t),
+      eqb-true (e .origin) 0 (and-left (eqb (e .origin) 0) (eqb (left g (e .rule)) (g .start)) u),
+      eqb-true (left g (e .rule)) (g .start) (and-right (eqb (e .origin) 0) (eqb (left g (e .rule)) (g .start)) u),
+    )
 
 top-is : (g : Grammar) (h : ℕ) → left g h ≡ g .start → isTop g (entry h 0 []) ≡ true
 unfolding isTop finished
@@ -64,19 +65,19 @@ module _ {g : Grammar} {row : List ℕ} where
   whole-stands h {s} l e a c parts =
       let b : Arrangement (s ++ []) (members g h) = rw (append-nil s) a in
       stands-by-trees .1
-        (record {
-          is-rule = l;
-          origin-le = omega arith;
-          list-le = omega arith;
-          found = s;
-          ahead = [];
-          rest-is = sym (arranged-nil (minus (members g h) s) (arranged-sym (arranged-minus s [] b)));
-          found-are = b;
-          ahead-is = arranged-refl [];
-          acceptable = rw (append-nil s) c;
-          parts = parts;
-          sought = rw e Sought.top;
-        })
+      (record {
+        is-rule = l;
+        origin-le = omega arith;
+        list-le = omega arith;
+        found = s;
+        ahead = [];
+        rest-is = sym (arranged-nil (minus (members g h) s) (arranged-sym (arranged-minus s [] b)));
+        found-are = b;
+        ahead-is = arranged-refl [];
+        acceptable = rw (append-nil s) c;
+        parts = parts;
+        sought = rw e Sought.top;
+      })
 
   -- a tree of the row as the start symbol has a top: the start symbol is no token
   tree-top : IsGrammar g → IsRow g row → {a i j : ℕ} → Tree g row a i j → a ≡ g .start → i ≡ 0 → j ≡ length row → (e : Entry) × Stands g row (length row) e × (isTop g e ≡ true)

@@ -54,8 +54,19 @@ unfolding minus
 fresh-stands {g} {j = j} o h p q s =
     let z : j ≤ j = omega arith in
     let (t, k, f) = arranged-acceptable o (members g h) in
-    record { is-rule = p; origin-le = z; list-le = q; found = []; ahead = t; rest-is = refl; found-are = arranged-refl (members g h)
-           ; ahead-is = k; acceptable = f; parts = done q; sought = s }
+    record {
+      is-rule = p;
+      origin-le = z;
+      list-le = q;
+      found = [];
+      ahead = t;
+      rest-is = refl;
+      found-are = arranged-refl (members g h);
+      ahead-is = k;
+      acceptable = f;
+      parts = done q;
+      sought = s;
+    }
 
 -- with a, which may be taken, in front of some arrangement of what is then left, the sequence is still acceptable
 record Takes (g : Grammar) (a : ℕ) (e : Entry) (found : List ℕ) : Type 0 where
@@ -69,24 +80,32 @@ takes : {g : Grammar} {row : List ℕ} {j : ℕ} {e : Entry} → StrictPartialOr
 takes {g} {e = e} o a s m =
     let (t, k, f) = arranged-acceptable o (without a (e .rest)) in
     let r = taken-arranged g a (e .rest) m k in
-    record { ahead = t; ahead-is = k
-           ; arranged = arranged-trans (arranged-append (arranged-refl (s .found)) r) (s .found-are)
-           ; acceptable = acceptable-exchange (s .found) (s .ahead) (s .acceptable) (arranged-trans r (arranged-sym (s .ahead-is))) (taken-acceptable g a (e .rest) m k f) }
+    record {
+      ahead = t;
+      ahead-is = k;
+      arranged = arranged-trans (arranged-append (arranged-refl (s .found)) r) (s .found-are);
+      acceptable = acceptable-exchange (s .found) (s .ahead) (s .acceptable) (arranged-trans r (arranged-sym (s .ahead-is))) (taken-acceptable g a (e .rest) m k f);
+    }
 
 -- an entry from which a may be taken, with a tree of a from its list on: with a found too it stands where the tree ends
 taking-stands : {g : Grammar} {row : List ℕ} {k j a : ℕ} {e : Entry} → StrictPartialOrder (g .precedes) → StandsByTrees g row k e
     → mayTake g a (e .rest) ≡ true → Tree g row a k j → k ≤ j → j ≤ length row → StandsByTrees g row j (taking a e)
 taking-stands {g} {a = a} {e = e} o s m t p q =
     let r = takes o a s m in
-    record { is-rule = s .is-rule; origin-le = omega arith; list-le = q
-           ; found = s .found ++ (a ∷ []); ahead = r .ahead
-           ; rest-is = ap (without a) (s .rest-is) ∙ sym (minus-snoc (members g (e .rule)) (s .found) a)
-           ; found-are = rw (append-assoc (s .found) (a ∷ []) (without a (e .rest)))
-                 (arranged-trans (arranged-append (arranged-refl (s .found)) (arranged-cons a (arranged-sym (r .ahead-is)))) (r .arranged))
-           ; ahead-is = r .ahead-is
-           ; acceptable = rw (append-assoc (s .found) (a ∷ []) (r .ahead)) (r .acceptable)
-           ; parts = parts-snoc (s .parts) t
-           ; sought = s .sought }
+    record {
+      is-rule = s .is-rule;
+      origin-le = omega arith;
+      list-le = q;
+      found = s .found ++ (a ∷ []);
+      ahead = r .ahead;
+      rest-is = ap (without a) (s .rest-is) ∙ sym (minus-snoc (members g (e .rule)) (s .found) a);
+      found-are = rw (append-assoc (s .found) (a ∷ []) (without a (e .rest)))
+          (arranged-trans (arranged-append (arranged-refl (s .found)) (arranged-cons a (arranged-sym (r .ahead-is)))) (r .arranged));
+      ahead-is = r .ahead-is;
+      acceptable = rw (append-assoc (s .found) (a ∷ []) (r .ahead)) (r .acceptable);
+      parts = parts-snoc (s .parts) t;
+      sought = s .sought;
+    }
 
 -- a symbol that may be taken from an entry is looked for where the entry stands
 sought-below : {g : Grammar} {row : List ℕ} {j a : ℕ} {e : Entry} → StrictPartialOrder (g .precedes) → StandsByTrees g row j e

@@ -17,4 +17,4 @@ sheet-climbs {g} {row} {s} p j = ascending-climbs 0 (map (word g) (listAt s j)) 
 pub sheet-unique : {g : Grammar} {row : List ℕ} {s t : Sheet} → IsSheet g row s → IsSheet g row t → s ≡ t
 sheet-unique {g} {row} {s} {t} p q =
     ext-getD [] s t (p .lists ∙ sym (q .lists))
-      (λ j l. climbs-same (word g) 0 0 (listAt s j) (listAt t j) (sheet-climbs p j) (sheet-climbs q j) (λ e m. q .exact j e .1 (p .exact j e .0 m)) (λ e m. p .exact j e .1 (q .exact j e .0 m)))
+    (λ j l. climbs-same (word g) 0 0 (listAt s j) (listAt t j) (sheet-climbs p j) (sheet-climbs q j) (λ e m. q .exact j e .1 (p .exact j e .0 m)) (λ e m. p .exact j e .1 (q .exact j e .0 m)))

@@ -75,8 +75,13 @@ length-withRules : (h n : ℕ) (rules : List Rule) → length (withRules h n rul
 unfolding withRules sum
 length-withRules h n [] = omega (arith, zero-mul n)
 length-withRules h n (r ∷ rules) =
-    omega (arith, length-append (withOrigins h (subMultisets (r .members)) n) (withRules (suc h) n rules), length-withOrigins h (subMultisets (r .members)) n,
-      length-withRules (suc h) n rules, add-mul (length (subMultisets (r .members))) (sum (λ q. length (subMultisets (q .members))) rules) n)
+    omega (
+      arith,
+      length-append (withOrigins h (subMultisets (r .members)) n) (withRules (suc h) n rules),
+      length-withOrigins h (subMultisets (r .members)) n,
+      length-withRules (suc h) n rules,
+      add-mul (length (subMultisets (r .members))) (sum (λ q. length (subMultisets (q .members))) rules) n,
+    )
 
 -- there are D(j + 1) of them
 pub universe-size : (g : Grammar) (j : ℕ) → length (universe g j) ≡ rests g * suc j

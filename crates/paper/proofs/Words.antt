@@ -75,7 +75,7 @@ restOf-mask (a ∷ s) {r} m = go (listed-cases a s m) (λ q n. restOf-mask s n)
     go (inl n) ih = ap (restOf (a ∷ s)) (mask-missing a s n) ∙ (restOf-clear a s (mask s r) ∙ ih r n)
     go (inr p) ih =
         ap (λ t. restOf (a ∷ s) (mask (a ∷ s) t)) (p .r-is)
-          ∙ (ap (restOf (a ∷ s)) (mask-present a s (p .q) (p .every)) ∙ (restOf-set a s (mask s (p .q)) ∙ (ap (a ∷_) (ih (p .q) (p .listed)) ∙ sym (p .r-is))))
+        ∙ (ap (restOf (a ∷ s)) (mask-present a s (p .q) (p .every)) ∙ (restOf-set a s (mask s (p .q)) ∙ (ap (a ∷_) (ih (p .q) (p .listed)) ∙ sym (p .r-is))))
 
 -- so the mask of the members less those found says which those are
 pub restOf-minus : (s found : List ℕ) → restOf s (mask s (minus s found)) ≡ minus s found
@@ -103,7 +103,7 @@ ones-mask (a ∷ s) {r} m = go (listed-cases a s m) (λ q n. ones-mask s n)
     go (inl n) ih = ap ones (mask-missing a s n) ∙ (ones-clear (mask s r) ∙ ih r n)
     go (inr p) ih =
         ap (λ t. ones (mask (a ∷ s) t)) (p .r-is)
-          ∙ (ap ones (mask-present a s (p .q) (p .every)) ∙ (ones-set (mask s (p .q)) ∙ (ap suc (ih (p .q) (p .listed)) ∙ sym (ap length (p .r-is)))))
+        ∙ (ap ones (mask-present a s (p .q) (p .every)) ∙ (ones-set (mask s (p .q)) ∙ (ap suc (ih (p .q) (p .listed)) ∙ sym (ap length (p .r-is)))))
 
 -- ---- words
 
@@ -132,7 +132,7 @@ module _ (g : Grammar) (is : IsGrammar g) where
       let b = mask-byte g is (e .rule) (e .rest) l in
       let p = word-rule (e .rule) (e .origin) (mask (members g (e .rule)) (e .rest)) k b in
       same-entry (entryOf g (word g e)) e p (word-origin (e .rule) (e .origin) (mask (members g (e .rule)) (e .rest)) k b)
-        (ap (λ h. restOf (members g h) (word g e % 256)) p ∙ (ap (restOf (members g (e .rule))) (word-byte (e .rule) (e .origin) (mask (members g (e .rule)) (e .rest)) k b) ∙ restOf-mask (members g (e .rule)) m))
+      (ap (λ h. restOf (members g h) (word g e % 256)) p ∙ (ap (restOf (members g (e .rule))) (word-byte (e .rule) (e .origin) (mask (members g (e .rule)) (e .rest)) k b) ∙ restOf-mask (members g (e .rule)) m))
 
   -- no two entries have one word
   pub word-same : (e f : Entry) → e .rule < ruleCount g → f .rule < ruleCount g → e .origin < 256 → f .origin < 256

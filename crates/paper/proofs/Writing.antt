@@ -113,15 +113,15 @@ Writes g row f = (ns : List ℕ) (n : ℕ) → Table g row ns n → (a i j : ℕ
 
 -- nothing is written: the slot was there
 unwritten : {g : Grammar} {row ns : List ℕ} {f n slot a i j : ℕ} → Table g row ns n → Held g row ns n slot a i j → Written g row f ns n a i j
-unwritten {ns = ns} {n = n} {slot = slot} t h = record
-  { after = ns
-  ; count = n
-  ; growth = no-growth t
-  ; slot = slot
-  ; held = h
-  ; last = λ b. absurd (let z : ⊥ = omega arith in z)
-  ; used = λ k b c. absurd (let z : ⊥ = omega arith in z)
-  }
+unwritten {ns = ns} {n = n} {slot = slot} t h = record {
+  after = ns;
+  count = n;
+  growth = no-growth t;
+  slot = slot;
+  held = h;
+  last = λ b. absurd (let z : ⊥ = omega arith in z);
+  used = λ k b c. absurd (let z : ⊥ = omega arith in z);
+}
 
 -- a slot in front moves the others by one place
 shifted : {slots : List ℕ} {k : ℕ} (slot : ℕ) → Named slots k → Named (slot ∷ slots) k
@@ -130,18 +130,19 @@ shifted slot x = record { place = suc (x .place); below = let b = x .below in om
 -- A part and then the parts behind it.
 part-then : {g : Grammar} {row ns : List ℕ} {f n a i m j : ℕ} {s : List ℕ} → IsGrammar g → (w : Written g row f ns n a i m)
     → PartsWritten g row f (w .after) (w .count) s m j → PartsWritten g row f ns n (a ∷ s) i j
-part-then {n = n} is w v = record
-  { after = v .after
-  ; count = v .count
-  ; growth = growth-then (w .growth) (v .growth)
-  ; slots = w .slot ∷ v .slots
-  ; joins = held-joins (held-kept (w .growth .table) (v .growth .extends) (v .growth .more) (w .held)) (v .joins)
-  ; used = λ k b c. front k b c (decLt k (w .count)) (decLt (suc k) (w .count))
-  }
+part-then {n = n} is w v = record {
+  after = v .after;
+  count = v .count;
+  growth = growth-then (w .growth) (v .growth);
+  slots = w .slot ∷ v .slots;
+  joins = held-joins (held-kept (w .growth .table) (v .growth .extends) (v .growth .more) (w .held)) (v .joins);
+  used = λ k b c. front k b c (decLt k (w .count)) (decLt (suc k) (w .count));
+}
   where
     behind : (k : ℕ) → Used (v .after) (v .count) k ⊎ Named (v .slots) k → Used (v .after) (v .count) k ⊎ Named (w .slot ∷ v .slots) k
     behind k (inl u) = inl u
     behind k (inr x) = inr (shifted (w .slot) x)
+
     front : (k : ℕ) → n ≤ k → k < v .count → Dec (k < w .count) → Dec (suc k < w .count) → Used (v .after) (v .count) k ⊎ Named (w .slot ∷ v .slots) k
     front k b c (no p) q = behind k (v .used k (omega arith) c)
     front k b c (yes p) (yes q) = inl (used-kept (v .count) is (w .growth .table) (v .growth .extends) (v .growth .more) (w .used k b q))
@@ -174,11 +175,11 @@ growth-line {g} {row} {ns} {f} {n} h i j slots t u tree =
 used-behind : {n k : ℕ} (ns : List ℕ) (h i j : ℕ) (slots : List ℕ) → length ns ≡ lineSize * n → k < n → Named slots k → Used (ns ++ lineOf h i j slots) (suc n) k
 used-behind {n} ns h i j slots l b x =
     let back = reads-back ns n h i j slots l in
-    record
-    { by = n
-    ; behind = b
-    ; below = omega arith
-    ; uses = record { slot = x .place; is-part = rw (back .parts-are) (x .below); names = back .slot (x .place) (x .below) ∙ x .names }
+    record {
+      by = n;
+      behind = b;
+      below = omega arith;
+      uses = record { slot = x .place; is-part = rw (back .parts-are) (x .below); names = back .slot (x .place) (x .below) ∙ x .names };
     }
 
 -- The line of a tree is written behind the lines of its parts.
@@ -190,15 +191,15 @@ line-behind {g} {row} {ns} {f} {n} {i} {j} {s} h is b arranged acceptable parts 
     let t = v .growth .table in
     let u = add-line h is t b (span .0) (span .1) (v .joins) arranged acceptable none in
     let back = reads-back (v .after) (v .count) h i j (v .slots) (t .whole) in
-    record
-    { after = v .after ++ lineOf h i j (v .slots)
-    ; count = suc (v .count)
-    ; growth = growth-then (growth-higher (v .growth))
-        (growth-line h i j (v .slots) t u (record { tree = Tree.node h b refl arranged acceptable parts; low = omega arith }))
-    ; slot = suc (v .count)
-    ; held = Held.line (record { line = v .count; below = omega arith; symbol-is = ap (left g) (back .rule-is); from-is = back .from-is; to-is = back .to-is })
-    ; last = λ c. refl
-    ; used = λ k c d. each k (omega arith) (v .used k c (omega arith))
+    record {
+      after = v .after ++ lineOf h i j (v .slots);
+      count = suc (v .count);
+      growth = growth-then (growth-higher (v .growth))
+          (growth-line h i j (v .slots) t u (record { tree = Tree.node h b refl arranged acceptable parts; low = omega arith }));
+      slot = suc (v .count);
+      held = Held.line (record { line = v .count; below = omega arith; symbol-is = ap (left g) (back .rule-is); from-is = back .from-is; to-is = back .to-is });
+      last = λ c. refl;
+      used = λ k c d. each k (omega arith) (v .used k c (omega arith));
     }
   where
     each : (k : ℕ) → k < v .count → Used (v .after) (v .count) k ⊎ Named (v .slots) k → Used (v .after ++ lineOf h i j (v .slots)) (suc (v .count)) k
@@ -227,6 +228,7 @@ write-node {g} {row} {f} {i} {j} {s} h is writes b arranged acceptable parts low
         → Written g row (suc f) ns n (left g h) i j
     came none v (yes l) = let x = brought t none (v .growth) l in written-higher (writes ns n t (left g h) i j (x .tree) (x .low))
     came none v (no fresh) = line-behind h is b arranged acceptable parts low v fresh
+
     there : Dec (HasLine g ns n (left g h) i j) → Written g row (suc f) ns n (left g h) i j
     there (yes l) = unwritten t (Held.line l)
     there (no none) = let v = write-parts is writes parts low ns n t in came none v (find-line g (v .after) (left g h) i j (v .count))
@@ -264,16 +266,16 @@ valid {g} {row} {f} is tokens w =
     let same = l .1 in
     let count-is : lineCount (w .after) ≡ w .count = omega arith in
     let top-is : lineCount (w .after) - 1 ≡ l .0 .line = omega arith in
-    record
-    { whole-lines = omega arith
-    ; each = λ k c. t .right k (rw count-is at c)
-    ; whole = record
-      { some-line = omega arith
-      ; top = rw top-is (l .0 .symbol-is)
-      ; top-from = rw top-is (l .0 .from-is)
-      ; top-to = rw top-is (l .0 .to-is)
-      ; used = λ k c. let u = w .used k (omega arith) (omega arith) in let below = u .below in (u .by, u .behind, omega arith, u .uses)
-      }
+    record {
+      whole-lines = omega arith;
+      each = λ k c. t .right k (rw count-is at c);
+      whole = record {
+        some-line = omega arith;
+        top = rw top-is (l .0 .symbol-is);
+        top-from = rw top-is (l .0 .from-is);
+        top-to = rw top-is (l .0 .to-is);
+        used = λ k c. let u = w .used k (omega arith) (omega arith) in let below = u .below in (u .by, u .behind, omega arith, u .uses);
+      };
     }
 
 -- the table to begin with
