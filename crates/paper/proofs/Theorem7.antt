@@ -2,14 +2,13 @@
 -- Assumes nothing.
 use mathlib.Core.Path.{_≡_, refl, sym, _∙_, ap, subst}
 use mathlib.Core.Bool.{true}
-use mathlib.Core.Logic.{_↔_}
 use mathlib.Core.List.{List, [], _∷_, _++_, append-nil, append-assoc}
 use Prim.Native.Nat.{ℕ, suc, _≤_, _<_}
 use native.Mathlib.Omega.{arith}
 use lib.ListN.{length, getD}
 use borrow.Author.Tests.{eqb-true, eq-eqb}
 use Rattle.paper.specs.Multiset.{Arrangement, without, minus}
-use Rattle.paper.specs.Grammar.{Grammar, ruleCount, left, members, StrictPartialOrder, IsGrammar, IsRow}
+use Rattle.paper.specs.Grammar.{Grammar, ruleCount, left, members, StrictPartialOrder}
 use Rattle.paper.specs.Derivation.{Acceptable}
 use Rattle.paper.specs.Tree.{Tree, token, node, Parts, done, part, Sought, top, below}
 use Rattle.paper.specs.Entry.{Entry, mayTake, fresh, taking, finished, Found, start, scan, predict, complete}

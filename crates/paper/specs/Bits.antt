@@ -1,9 +1,7 @@
 -- The bits of a number, lowest first.
 -- Assumes nothing.
 use mathlib.Core.Path.{_≡_}
-use mathlib.Core.Bool.{Bool}
 use Prim.Native.Nat.{ℕ, zero, suc, _/_, _%_}
-use lib.Dec.{eqb}
 
 -- bit k of x, 0 or 1
 unfoldable pub bitAt : ℕ → ℕ → ℕ

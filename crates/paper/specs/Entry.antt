@@ -3,11 +3,11 @@
 use mathlib.Core.Path.{_≡_}
 use mathlib.Core.Bool.{Bool, true, false, not, _&&_, _||_}
 use mathlib.Core.List.{List, [], _∷_, _++_}
-use Prim.Native.Nat.{ℕ, suc, _+_, _*_, _≤_, _<_}
-use lib.Dec.{eqb, leb}
+use Prim.Native.Nat.{ℕ, suc, _≤_, _<_}
+use lib.Dec.{eqb}
 use lib.ListN.{length, getD, take}
 use lib.Seq.{slice}
-use Rattle.paper.specs.Multiset.{bit, count, Arrangement, has, without, minus}
+use Rattle.paper.specs.Multiset.{Arrangement, has, without, minus}
 use Rattle.paper.specs.Grammar.{Grammar, ruleCount, left, members}
 use Rattle.paper.specs.Derivation.{Acceptable, Derives}
 

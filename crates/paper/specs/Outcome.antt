@@ -1,15 +1,14 @@
 -- What comes back from each public call: document 01, "What comes back". For every input and every lent buffer, the answer and the buffers afterwards.
 -- Assumes nothing.
 use mathlib.Core.Path.{_≡_}
-use mathlib.Core.Bool.{Bool, true, false, not, cond}
+use mathlib.Core.Bool.{Bool, not, cond}
 use mathlib.Core.Logic.{_≢_}
 use mathlib.Core.List.{List, [], _∷_, _++_, map}
 use Prim.Native.Nat.{ℕ, zero, suc, _+_, _-_, _*_, _≤_, _<_}
 use lib.Dec.{ltb}
-use lib.ListN.{length, getD, replicate}
-use Rattle.paper.specs.Grammar.{Grammar, ruleCount}
+use lib.ListN.{length, replicate}
+use Rattle.paper.specs.Grammar.{Grammar}
 use Rattle.paper.specs.Derivation.{InLanguage}
-use Rattle.paper.specs.Entry.{Entry}
 use Rattle.paper.specs.Sheet.{Sheet, IsSheet, word, entries, steps, tops}
 use Rattle.paper.specs.Price.{rests, entriesBound, stepsBound, linesBound}
 use Rattle.paper.specs.Image.{allBelow, imageFault, grammarOf}

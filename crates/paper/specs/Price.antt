@@ -1,6 +1,6 @@
 -- What a reading can cost at the most: the formulas of document 01, "The work sheet" and "Derivation lines".
 -- Assumes nothing.
-use mathlib.Core.Bool.{Bool, true, false, cond}
+use mathlib.Core.Bool.{cond}
 use Prim.Native.Nat.{ℕ, _+_, _*_, _/_}
 use lib.Dec.{eqb}
 use lib.ListN.{length}

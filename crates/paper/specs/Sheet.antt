@@ -1,14 +1,14 @@
 -- The work sheet: document 01, "The work sheet".
 -- Assumes nothing.
 use mathlib.Core.Path.{_≡_}
-use mathlib.Core.Bool.{Bool, true, false, _&&_, cond}
+use mathlib.Core.Bool.{Bool, _&&_, cond}
 use mathlib.Core.Logic.{_↔_}
-use mathlib.Core.List.{List, [], _∷_, _++_, List·Memᴰ, map}
-use Prim.Native.Nat.{ℕ, zero, suc, _+_, _*_, _/_, _%_, _≤_, _<_}
+use mathlib.Core.List.{List, [], _∷_, List·Memᴰ, map}
+use Prim.Native.Nat.{ℕ, zero, suc, _+_, _*_, _/_, _%_}
 use lib.Dec.{eqb, leb}
 use lib.ListN.{length, getD}
 use Rattle.paper.specs.Multiset.{bit, count, keep, StrictlyAscending}
-use Rattle.paper.specs.Grammar.{Grammar, ruleCount, left, members}
+use Rattle.paper.specs.Grammar.{Grammar, left, members}
 use Rattle.paper.specs.Entry.{Entry, mayTake, finished, Stands}
 
 -- 01: "a byte whose bit k is set if member k is still to be found"; "Of equal members the first written is found first": so of equal members
