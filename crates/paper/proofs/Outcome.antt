@@ -1,15 +1,15 @@
 -- Two permitted outcomes of one call are equal: the answers, and what is left in the buffers (for a row that is read, the lines apart).
 -- Assumes nothing.
 use mathlib.Core.Path.{_≡_, ap}
-use mathlib.Core.List.{List}
-use Prim.Native.Nat.{ℕ, _<_}
+use mathlib.Core.List.{List, []}
+use Prim.Native.Nat.{ℕ, _≤_, _<_}
 use native.Mathlib.Omega.{arith}
 use lib.ListN.{length}
 use Rattle.paper.specs.Grammar.{Grammar}
 use Rattle.paper.specs.Sheet.{Sheet, IsSheet, entries}
 use Rattle.paper.specs.Image.{grammarOf}
-use Rattle.paper.specs.Lines.{LineRight, Judged}
-use Rattle.paper.specs.Outcome.{Buffers, Built, readingNumber, readingCounts, ReadingOutcome, CheckingOutcome, BracketingOutcome, ViewOutcome}
+use Rattle.paper.specs.Lines.{lineCount, LineRight, Valid, Judged, wordsUnder}
+use Rattle.paper.specs.Outcome.{rowRefusal, padded, lastBracket, Buffers, Built, readingNumber, readingCounts, ReadingOutcome, CheckingOutcome, BracketingOutcome, ViewOutcome}
 use Rattle.paper.specs.Demands.{SameReading}
 use Rattle.paper.specs.declared.Counts.{Counts}
 use Rattle.paper.specs.declared.Reading.{Reading}
@@ -51,45 +51,65 @@ checking-unique (CheckingOutcome.refused r e) (CheckingOutcome.judged n j) = abs
 checking-unique (CheckingOutcome.judged n j) (CheckingOutcome.refused r f) = absurd (r n)
 checking-unique (CheckingOutcome.judged n j) (CheckingOutcome.judged n′ j′) = judged-unique j j′
 
+-- Calls on lines end in one of four ways, by three tests in order: the row is refused, the lines are not valid, what is asked for is not there, or it is.
+data End {A : Type 0} (admitted valid there : Type 0) (a b c d : A) (x : A) : Type 0 where
+  refused : (admitted → ⊥) → x ≡ a → End admitted valid there a b c d x
+  invalid : admitted → (valid → ⊥) → x ≡ b → End admitted valid there a b c d x
+  absent : admitted → valid → (there → ⊥) → x ≡ c → End admitted valid there a b c d x
+  given : admitted → valid → there → x ≡ d → End admitted valid there a b c d x
+
+end-unique : {A admitted valid there : Type 0} {a b c d x y : A} → End admitted valid there a b c d x → End admitted valid there a b c d y → x ≡ y
+end-unique (End.refused r e) (End.refused r′ f) = cc
+end-unique (End.refused r e) (End.invalid n v f) = absurd (r n)
+end-unique (End.refused r e) (End.absent n v l f) = absurd (r n)
+end-unique (End.refused r e) (End.given n v l f) = absurd (r n)
+end-unique (End.invalid n v e) (End.refused r f) = absurd (r n)
+end-unique (End.invalid n v e) (End.invalid n′ v′ f) = cc
+end-unique (End.invalid n v e) (End.absent n′ v′ l f) = absurd (v v′)
+end-unique (End.invalid n v e) (End.given n′ v′ l f) = absurd (v v′)
+end-unique (End.absent n v l e) (End.refused r f) = absurd (r n)
+end-unique (End.absent n v l e) (End.invalid n′ v′ f) = absurd (v′ v)
+end-unique (End.absent n v l e) (End.absent n′ v′ l′ f) = cc
+end-unique (End.absent n v l e) (End.given n′ v′ l′ f) = absurd (l l′)
+end-unique (End.given n v l e) (End.refused r f) = absurd (r n)
+end-unique (End.given n v l e) (End.invalid n′ v′ f) = absurd (v′ v)
+end-unique (End.given n v l e) (End.absent n′ v′ l′ f) = absurd (l′ l)
+end-unique (End.given n v l e) (End.given n′ v′ l′ f) = cc
+
+-- what a call on lines answers, with what it leaves or hands back
+record Back (A : Type 0) : Type 0 where
+  answer : A
+  cells : List ℕ
+
+abbrev back : {A : Type 0} → A → List ℕ → Back A
+back x s = record { answer = x; cells = s }
+
+bracketing-end : {image row lines entry : List ℕ} {x : Bracketing} {s : List ℕ} → BracketingOutcome image row lines entry x s
+    → End (rowRefusal image row ≡ 0) (Valid (grammarOf image) row lines) (length (lastBracket row lines) ≤ length entry)
+    (back (Bracketing.Refused (rowRefusal image row)) entry) (back (Bracketing.Refused 30) entry) (back (Bracketing.Refused 31) entry)
+    (back (Bracketing.Written (length (lastBracket row lines))) (padded (lastBracket row lines) (length entry))) (back x s)
+bracketing-end (BracketingOutcome.refused r e p) = End.refused r (cc)
+bracketing-end (BracketingOutcome.invalid n v e p) = End.invalid n v (cc)
+bracketing-end (BracketingOutcome.long n v l e p) = End.absent n v (λ h. omega arith) (cc)
+bracketing-end (BracketingOutcome.written n v l e p) = End.given n v l (cc)
+
 -- the bracket writer answers one thing, and leaves one thing in its buffer
 pub bracketing-unique : {image row lines entry : List ℕ} {x y : Bracketing} {s t : List ℕ}
     → BracketingOutcome image row lines entry x s → BracketingOutcome image row lines entry y t → (x ≡ y) × (s ≡ t)
-bracketing-unique (BracketingOutcome.refused r e p) (BracketingOutcome.refused r′ f q) = ((cc), (cc))
-bracketing-unique (BracketingOutcome.refused r e p) (BracketingOutcome.invalid n v f q) = absurd (r n)
-bracketing-unique (BracketingOutcome.refused r e p) (BracketingOutcome.long n v l f q) = absurd (r n)
-bracketing-unique (BracketingOutcome.refused r e p) (BracketingOutcome.written n v l f q) = absurd (r n)
-bracketing-unique (BracketingOutcome.invalid n v e p) (BracketingOutcome.refused r f q) = absurd (r n)
-bracketing-unique (BracketingOutcome.invalid n v e p) (BracketingOutcome.invalid n′ v′ f q) = ((cc), (cc))
-bracketing-unique (BracketingOutcome.invalid n v e p) (BracketingOutcome.long n′ v′ l f q) = absurd (v v′)
-bracketing-unique (BracketingOutcome.invalid n v e p) (BracketingOutcome.written n′ v′ l f q) = absurd (v v′)
-bracketing-unique (BracketingOutcome.long n v l e p) (BracketingOutcome.refused r f q) = absurd (r n)
-bracketing-unique (BracketingOutcome.long n v l e p) (BracketingOutcome.invalid n′ v′ f q) = absurd (v′ v)
-bracketing-unique (BracketingOutcome.long n v l e p) (BracketingOutcome.long n′ v′ l′ f q) = ((cc), (cc))
-bracketing-unique (BracketingOutcome.long n v l e p) (BracketingOutcome.written n′ v′ l′ f q) = absurd (let z : ⊥ = omega arith in z)
-bracketing-unique (BracketingOutcome.written n v l e p) (BracketingOutcome.refused r f q) = absurd (r n)
-bracketing-unique (BracketingOutcome.written n v l e p) (BracketingOutcome.invalid n′ v′ f q) = absurd (v′ v)
-bracketing-unique (BracketingOutcome.written n v l e p) (BracketingOutcome.long n′ v′ l′ f q) = absurd (let z : ⊥ = omega arith in z)
-bracketing-unique (BracketingOutcome.written n v l e p) (BracketingOutcome.written n′ v′ l′ f q) = ((cc), (cc))
+bracketing-unique p q = let e = end-unique (bracketing-end p) (bracketing-end q) in (ap (λ z. z .answer) e, ap (λ z. z .cells) e)
+
+view-end : {image row lines : List ℕ} {k number : ℕ} {view : List ℕ} → ViewOutcome image row lines k number view
+    → End (rowRefusal image row ≡ 0) (Valid (grammarOf image) row lines) (k < lineCount lines)
+    (back (rowRefusal image row) []) (back 30 []) (back 32 []) (back 0 (wordsUnder row lines k)) (back number view)
+view-end (ViewOutcome.refused r e p) = End.refused r (cc)
+view-end (ViewOutcome.invalid n v e p) = End.invalid n v (cc)
+view-end (ViewOutcome.absent n v l e p) = End.absent n v (λ h. omega arith) (cc)
+view-end (ViewOutcome.seen n v l e p) = End.given n v l (cc)
 
 -- the view of a line and its number are one
 pub view-unique : {image row lines : List ℕ} {k number number′ : ℕ} {view view′ : List ℕ}
     → ViewOutcome image row lines k number view → ViewOutcome image row lines k number′ view′ → (number ≡ number′) × (view ≡ view′)
-view-unique (ViewOutcome.refused r e p) (ViewOutcome.refused r′ f q) = ((cc), (cc))
-view-unique (ViewOutcome.refused r e p) (ViewOutcome.invalid n v f q) = absurd (r n)
-view-unique (ViewOutcome.refused r e p) (ViewOutcome.absent n v l f q) = absurd (r n)
-view-unique (ViewOutcome.refused r e p) (ViewOutcome.seen n v l f q) = absurd (r n)
-view-unique (ViewOutcome.invalid n v e p) (ViewOutcome.refused r f q) = absurd (r n)
-view-unique (ViewOutcome.invalid n v e p) (ViewOutcome.invalid n′ v′ f q) = ((cc), (cc))
-view-unique (ViewOutcome.invalid n v e p) (ViewOutcome.absent n′ v′ l f q) = absurd (v v′)
-view-unique (ViewOutcome.invalid n v e p) (ViewOutcome.seen n′ v′ l f q) = absurd (v v′)
-view-unique (ViewOutcome.absent n v l e p) (ViewOutcome.refused r f q) = absurd (r n)
-view-unique (ViewOutcome.absent n v l e p) (ViewOutcome.invalid n′ v′ f q) = absurd (v′ v)
-view-unique (ViewOutcome.absent n v l e p) (ViewOutcome.absent n′ v′ l′ f q) = ((cc), (cc))
-view-unique (ViewOutcome.absent n v l e p) (ViewOutcome.seen n′ v′ l′ f q) = absurd (let z : ⊥ = omega arith in z)
-view-unique (ViewOutcome.seen n v l e p) (ViewOutcome.refused r f q) = absurd (r n)
-view-unique (ViewOutcome.seen n v l e p) (ViewOutcome.invalid n′ v′ f q) = absurd (v′ v)
-view-unique (ViewOutcome.seen n v l e p) (ViewOutcome.absent n′ v′ l′ f q) = absurd (let z : ⊥ = omega arith in z)
-view-unique (ViewOutcome.seen n v l e p) (ViewOutcome.seen n′ v′ l′ f q) = ((cc), (cc))
+view-unique p q = let e = end-unique (view-end p) (view-end q) in (ap (λ z. z .answer) e, ap (λ z. z .cells) e)
 
 -- equal answers and equal buffers have everything in common
 same-all : {x y : Reading} {s t : Buffers} → x ≡ y → s ≡ t → SameReading x y s t

@@ -147,7 +147,7 @@ listed-exists (a ∷ s) t h = go (decLe (count a t) (count a s)) (λ u. listed-e
         (a ∷ x .0, listed-present a s (x .1) e, arranged-trans (arranged-sym (arranged-without a t (there k))) (arranged-cons a (x .2)))
 
 -- no two that are listed are equal
-listed-distinct : (s : List ℕ) → Distinct (subMultisets s)
+pub listed-distinct : (s : List ℕ) → Distinct (subMultisets s)
 unfolding subMultisets
 listed-distinct [] = (λ m. List·Memᴰ·not-nil m, tt)
 listed-distinct (a ∷ s) =
