@@ -2,12 +2,13 @@
 -- Assumes nothing.
 use mathlib.Core.Path.{_≡_, refl, sym, _∙_, ap}
 use mathlib.Core.Logic.{_⊎_, inl, inr}
+use mathlib.Core.Bool.{cond}
 use mathlib.Core.List.{List, [], _∷_}
 use Prim.Native.Nat.{ℕ, suc, _+_, _*_, _^_, _/_, _%_, _≤_, _<_}
 use native.Mathlib.Omega.{arith}
 use native.Mathlib.Nat.{pow-suc, pow-le-pow-right}
 use native.Mathlib.Decide.{ℕ-discrete}
-use lib.Dec.{leb}
+use lib.Dec.{eqb, leb}
 use lib.ListN.{length}
 use lib.Count.{ones, onesIn, ones-step}
 use borrow.Author.Tests.{le-leb, lt-leb}
@@ -42,20 +43,17 @@ mask-more a q (b ∷ s) h = go (ℕ-discrete b a) (mask-more a q s (omega (arith
         rw (le-leb (count b (b ∷ s)) (count b q) k, le-leb (count b (b ∷ s)) (count b (a ∷ q)) (omega (arith, count-behind a b q)), ih)
     go (no ne) ih = rw (count-other b a q ne, ih)
 
--- reading a byte whose lowest bit is 0 or 1
-restOf-clear : (a : ℕ) (s : List ℕ) (n : ℕ) → restOf (a ∷ s) (0 + 2 * n) ≡ restOf s n
-unfolding restOf
-restOf-clear a s n =
-    let e : (0 + 2 * n) % 2 ≡ 0 = omega arith in
-    let f : (0 + 2 * n) / 2 ≡ n = omega arith in
-    rw (e, f)
+-- a lowest bit of 0 or 1 in front of a number can be cut off again
+low-bit : (b n : ℕ) → b ≤ 1 → (b + 2 * n) % 2 ≡ b
+low-bit b n l = omega arith
 
-restOf-set : (a : ℕ) (s : List ℕ) (n : ℕ) → restOf (a ∷ s) (1 + 2 * n) ≡ a ∷ restOf s n
+high-bits : (b n : ℕ) → b ≤ 1 → (b + 2 * n) / 2 ≡ n
+high-bits b n l = omega arith
+
+-- reading a byte with such a lowest bit
+restOf-bit : (a : ℕ) (s : List ℕ) (b n : ℕ) → b ≤ 1 → restOf (a ∷ s) (b + 2 * n) ≡ cond (eqb b 1) (a ∷ restOf s n) (restOf s n)
 unfolding restOf
-restOf-set a s n =
-    let e : (1 + 2 * n) % 2 ≡ 1 = omega arith in
-    let f : (1 + 2 * n) / 2 ≡ n = omega arith in
-    rw (e, f)
+restOf-bit a s b n l = rw (low-bit b n l, high-bits b n l)
 
 pub mask-missing : (a : ℕ) (s : List ℕ) {r : List ℕ} → Listed r s → mask (a ∷ s) r ≡ 0 + 2 * mask s r
 unfolding mask
@@ -72,26 +70,17 @@ restOf-mask [] m = sym (listed-nil m)
 restOf-mask (a ∷ s) {r} m = go (listed-cases a s m) (λ q n. restOf-mask s n)
   where
     go : Listed r s ⊎ Present a s r → ((q : List ℕ) → Listed q s → restOf s (mask s q) ≡ q) → restOf (a ∷ s) (mask (a ∷ s) r) ≡ r
-    go (inl n) ih = ap (restOf (a ∷ s)) (mask-missing a s n) ∙ (restOf-clear a s (mask s r) ∙ ih r n)
+    go (inl n) ih = ap (restOf (a ∷ s)) (mask-missing a s n) ∙ (restOf-bit a s 0 (mask s r) (omega arith) ∙ ih r n)
     go (inr p) ih =
         ap (λ t. restOf (a ∷ s) (mask (a ∷ s) t)) (p .r-is)
-        ∙ (ap (restOf (a ∷ s)) (mask-present a s (p .q) (p .every)) ∙ (restOf-set a s (mask s (p .q)) ∙ (ap (a ∷_) (ih (p .q) (p .listed)) ∙ sym (p .r-is))))
+        ∙ (ap (restOf (a ∷ s)) (mask-present a s (p .q) (p .every)) ∙ (restOf-bit a s 1 (mask s (p .q)) (omega arith) ∙ (ap (a ∷_) (ih (p .q) (p .listed)) ∙ sym (p .r-is))))
 
 -- so the mask of the members less those found says which those are
 pub restOf-minus : (s found : List ℕ) → restOf s (mask s (minus s found)) ≡ minus s found
 restOf-minus s found = restOf-mask s (listed-minus s found)
 
-ones-clear : (n : ℕ) → ones (0 + 2 * n) ≡ ones n
-ones-clear n =
-    let e : (0 + 2 * n) % 2 ≡ 0 = omega arith in
-    let f : (0 + 2 * n) / 2 ≡ n = omega arith in
-    omega (arith, ones-step (0 + 2 * n), ap ones f)
-
-ones-set : (n : ℕ) → ones (1 + 2 * n) ≡ suc (ones n)
-ones-set n =
-    let e : (1 + 2 * n) % 2 ≡ 1 = omega arith in
-    let f : (1 + 2 * n) / 2 ≡ n = omega arith in
-    omega (arith, ones-step (1 + 2 * n), ap ones f)
+ones-bit : (b n : ℕ) → b ≤ 1 → ones (b + 2 * n) ≡ b + ones n
+ones-bit b n l = omega (arith, ones-step (b + 2 * n), low-bit b n l, ap ones (high-bits b n l))
 
 -- 01: "how many are left is the number of ones in it"
 pub ones-mask : (s : List ℕ) {r : List ℕ} → Listed r s → ones (mask s r) ≡ length r
@@ -100,10 +89,9 @@ ones-mask [] m = ap length (sym (listed-nil m))
 ones-mask (a ∷ s) {r} m = go (listed-cases a s m) (λ q n. ones-mask s n)
   where
     go : Listed r s ⊎ Present a s r → ((q : List ℕ) → Listed q s → ones (mask s q) ≡ length q) → ones (mask (a ∷ s) r) ≡ length r
-    go (inl n) ih = ap ones (mask-missing a s n) ∙ (ones-clear (mask s r) ∙ ih r n)
+    go (inl n) ih = omega (arith, ap ones (mask-missing a s n), ones-bit 0 (mask s r) (omega arith), ih r n)
     go (inr p) ih =
-        ap (λ t. ones (mask (a ∷ s) t)) (p .r-is)
-        ∙ (ap ones (mask-present a s (p .q) (p .every)) ∙ (ones-set (mask s (p .q)) ∙ (ap suc (ih (p .q) (p .listed)) ∙ sym (ap length (p .r-is)))))
+        rw (p .r-is) (omega (arith, ap ones (mask-present a s (p .q) (p .every)), ones-bit 1 (mask s (p .q)) (omega arith), ih (p .q) (p .listed)))
 
 -- ---- words
 
