@@ -117,9 +117,10 @@ ascends-check : (least : ℕ) (s : List ℕ) → ((k : ℕ) → k < length s →
 unfolding ascends
 ascends-check least [] from up = refl
 ascends-check least (a ∷ s) from up =
-    and-eq-true-iff (leb least a) (ascends a s) .1
-    (le-leb least a (from 0 (omega arith)),
-    ascends-check a s (λ k l. up 0 (suc k) (omega arith) (omega arith)) (λ i j l m. up (suc i) (suc j) (omega arith) (omega arith)))
+    and-eq-true-iff (leb least a) (ascends a s) .1 (
+      le-leb least a (from 0 (omega arith)),
+      ascends-check a s (λ k l. up 0 (suc k) (omega arith) (omega arith)) (λ i j l m. up (suc i) (suc j) (omega arith) (omega arith)),
+    )
 
 below-check : (limit : ℕ) (s : List ℕ) → ((k : ℕ) → k < length s → getD s k 0 < limit) → allBelow limit s ≡ true
 unfolding allBelow
@@ -132,15 +133,28 @@ unfolding recordRight
 record-check terminals symbols rule rest right =
     let m = length (rule .members) in
     let r = ruleBytes rule ++ rest in
-    simp and-eq-true-iff
-    (le-leb 2 (length r) (omega arith),
-    (le-leb terminals (rule .left) (right .left-above),
-    (lt-ltb (rule .left) symbols (right .left-below),
-    (le-leb m 8 (right .few),
-    (le-leb (2 + m) (length r) (omega (arith, length-append (rule .members) rest)),
-    (subst⁻¹ (λ (x : List ℕ). ascends 0 x ≡ true) (take-append-seam (rule .members) rest) (ascends-check 0 (rule .members) (λ k l. omega arith) (right .ascend .ascend)),
-    (subst⁻¹ (λ (x : List ℕ). allBelow symbols x ≡ true) (take-append-seam (rule .members) rest) (below-check symbols (rule .members) (right .below)),
-    refl)))))))
+    simp and-eq-true-iff (
+      le-leb 2 (length r) (omega arith),
+      (
+        le-leb terminals (rule .left) (right .left-above),
+        (
+          lt-ltb (rule .left) symbols (right .left-below),
+          (
+            le-leb m 8 (right .few),
+            (
+              le-leb (2 + m) (length r) (omega (arith, length-append (rule .members) rest)),
+              (
+                subst⁻¹ (λ (x : List ℕ). ascends 0 x ≡ true) (take-append-seam (rule .members) rest) (ascends-check 0 (rule .members) (λ k l. omega arith) (right .ascend .ascend)),
+                (
+                  subst⁻¹ (λ (x : List ℕ). allBelow symbols x ≡ true) (take-append-seam (rule .members) rest) (below-check symbols (rule .members) (right .below)),
+                  refl,
+                ),
+              ),
+            ),
+          ),
+        ),
+      ),
+    )
 
 record-sound : (terminals symbols more k : ℕ) (last : List ℕ) (rule : Rule) (rest : List ℕ) → RightRule terminals symbols rule → recordBefore last (ruleBytes rule) ≡ true
     → recordFault terminals symbols more (suc k) (ruleBytes rule) rest ≡ sound → recordFault terminals symbols (suc more) k last (ruleBytes rule ++ rest) ≡ sound
@@ -288,10 +302,12 @@ image-ascends b a = record { ascend = up }
   where
     run : RightRecords (imageTerminals b) (imageSymbols b) (byte (body b 1) 0) [] (drop 1 (body b 1))
     run = rules-right (imageTerminals b) (imageSymbols b) (body b 1) (a .rules) .records
+
     bytes-are : (h : ℕ) → h < ruleCount (grammarOf b) → ruleBytes (ruleAt (grammarOf b) h) ≡ recordOf (recordAt h (drop 1 (body b 1)))
     bytes-are h l =
         let m : h < byte (body b 1) 0 = omega (arith, image-count b) in
         ap {B = List ℕ} ruleBytes (image-rule b h m) ∙ sym (record-bytes (recordAt h (drop 1 (body b 1))) (record-is run h m .fits))
+
     up : (h k : ℕ) → h < k → k < ruleCount (grammarOf b) → recordBefore (ruleBytes (ruleAt (grammarOf b) h)) (ruleBytes (ruleAt (grammarOf b) k)) ≡ true
     up h k l m = (λ i. recordBefore (bytes-are h (omega arith) i) (bytes-are k m i)) ∙ record-before run h k l (omega (arith, image-count b))
 

@@ -52,14 +52,25 @@ symbols-right s h = let k = simp and-eq-true-iff at h in omega (arith, eqb-true,
 pub symbols-check : (s : List ℕ) → RightSymbols s → symbolsRight s ≡ true
 unfolding symbolsRight
 symbols-check s c =
-    simp and-eq-true-iff
-    (eq-eqb (length s) 3 (c .size),
-    (le-leb 1 (byte s 0) (c .a-terminal),
-    (le-leb 1 (byte s 1) (c .a-nonterminal),
-    (le-leb (byte s 0 + byte s 1) 64 (c .few),
-    (le-leb (byte s 0) (byte s 2) (c .start-above),
-    (lt-ltb (byte s 2) (byte s 0 + byte s 1) (c .start-below),
-    refl))))))
+    simp and-eq-true-iff (
+      eq-eqb (length s) 3 (c .size),
+      (
+        le-leb 1 (byte s 0) (c .a-terminal),
+        (
+          le-leb 1 (byte s 1) (c .a-nonterminal),
+          (
+            le-leb (byte s 0 + byte s 1) 64 (c .few),
+            (
+              le-leb (byte s 0) (byte s 2) (c .start-above),
+              (
+                lt-ltb (byte s 2) (byte s 0 + byte s 1) (c .start-below),
+                refl,
+              ),
+            ),
+          ),
+        ),
+      ),
+    )
 
 -- What `contentsRight` says.
 pub record RightContents (b : List ℕ) : Type 0 where
@@ -82,18 +93,37 @@ contents-right b h = let k = simp and-eq-true-iff at h in omega (arith, eqb-true
 pub contents-check : (b : List ℕ) → RightContents b → contentsRight b ≡ true
 unfolding contentsRight
 contents-check b c =
-    simp and-eq-true-iff
-    (le-leb 17 (length b) (c .size),
-    (eq-eqb (byte b 0) 1 (c .form),
-    (eq-eqb (byte b 1) 3 (c .bodies),
-    (eq-eqb (kind b 0) 1 (c .kind-0),
-    (eq-eqb (kind b 1) 2 (c .kind-1),
-    (eq-eqb (kind b 2) 3 (c .kind-2),
-    (eq-eqb (offset b 0) 17 (c .offset-0),
-    (eq-eqb (offset b 1) (offset b 0 + extent b 0) (c .offset-1),
-    (eq-eqb (offset b 2) (offset b 1 + extent b 1) (c .offset-2),
-    (eq-eqb (length b) (offset b 2 + extent b 2) (c .ends),
-    refl))))))))))
+    simp and-eq-true-iff (
+      le-leb 17 (length b) (c .size),
+      (
+        eq-eqb (byte b 0) 1 (c .form),
+        (
+          eq-eqb (byte b 1) 3 (c .bodies),
+          (
+            eq-eqb (kind b 0) 1 (c .kind-0),
+            (
+              eq-eqb (kind b 1) 2 (c .kind-1),
+              (
+                eq-eqb (kind b 2) 3 (c .kind-2),
+                (
+                  eq-eqb (offset b 0) 17 (c .offset-0),
+                  (
+                    eq-eqb (offset b 1) (offset b 0 + extent b 0) (c .offset-1),
+                    (
+                      eq-eqb (offset b 2) (offset b 1 + extent b 1) (c .offset-2),
+                      (
+                        eq-eqb (length b) (offset b 2 + extent b 2) (c .ends),
+                        refl,
+                      ),
+                    ),
+                  ),
+                ),
+              ),
+            ),
+          ),
+        ),
+      ),
+    )
 
 -- An image is admitted where it passes the five tests ..
 pub admitted : (b : List ℕ) → imageFault b .number ≡ 0 → Admitted b
@@ -246,11 +276,11 @@ image-length b a =
     let r = rules-right (imageTerminals b) (imageSymbols b) (body b 1) (a .rules) in
     let x : extent b 0 ≡ 3 = sym (body-length b c 0 (omega arith)) ∙ s .size in
     let y : extent b 1 ≤ 1 + 10 * 96 =
-            omega
-            (arith, body-length b c 1 (omega arith), r .counted, r .few, length-drop 1 (body b 1), records-fill (r .records), place-below (r .records) (byte (body b 1) 0) (omega arith))
+    omega
+    (arith, body-length b c 1 (omega arith), r .counted, r .few, length-drop 1 (body b 1), records-fill (r .records), place-below (r .records) (byte (body b 1) 0) (omega arith))
     in
     let z : extent b 2 ≤ 2 * 4096 =
-            omega (arith, body-length b c 2 (omega arith), pairs-right (imageSymbols b) 0 0 (body b 2) (a .pairs) .size, pairs-few (imageSymbols b) 0 (body b 2) (s .few) (a .pairs))
+    omega (arith, body-length b c 2 (omega arith), pairs-right (imageSymbols b) 0 0 (body b 2) (a .pairs) .size, pairs-few (imageSymbols b) 0 (body b 2) (s .few) (a .pairs))
     in
     omega (arith, c .ends, c .offset-0, c .offset-1, c .offset-2)
 

@@ -85,6 +85,7 @@ closing pairs a b (q ∷ more) h c w = written-cases q more b c w here (closing 
   where
     t : ((not (eqb (q .earlier) b) || paired pairs a (q .later)) ≡ true) × (chained pairs a b more ≡ true)
     t = and-eq-true-iff (not (eqb (q .earlier) b) || paired pairs a (q .later)) (chained pairs a b more) .0 h
+
     here : q .earlier ≡ b → q .later ≡ c → paired pairs a c ≡ true
     here e f = rw (eq-eqb (q .earlier) b e, f) at (t .0)
 
@@ -157,6 +158,7 @@ pairs-step symbols least a b s p q f ih =
     from : (k : ℕ) → k < length (pairsOf (a ∷ b ∷ s)) → least ≤ getD (map pairKey (pairsOf (a ∷ b ∷ s))) k 0
     from zero l = f
     from (suc k) l = omega (arith, ih .least-is k (omega arith))
+
     up : (i j : ℕ) → i < j → j < length (map pairKey (pairsOf (a ∷ b ∷ s))) → getD (map pairKey (pairsOf (a ∷ b ∷ s))) i 0 < getD (map pairKey (pairsOf (a ∷ b ∷ s))) j 0
     up i zero l m = absurd (let z : ⊥ = omega arith in z)
     up zero (suc j) l m = ih .least-is j (omega (arith, length-map (pairsOf s) pairKey))

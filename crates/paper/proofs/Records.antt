@@ -222,6 +222,7 @@ records-step terminals symbols more last r right before ih = record { right = ea
     each : (h : ℕ) → h < suc more → recordRight terminals symbols (recordAt h r) ≡ true
     each zero l = right
     each (suc h) l = ih .right h (omega arith)
+
     pairs : (h : ℕ) → suc h < suc more → recordBefore (recordOf (recordAt h r)) (recordOf (recordAt (suc h) r)) ≡ true
     pairs zero l = ih .first (omega arith)
     pairs (suc h) l = ih .next h (omega arith)

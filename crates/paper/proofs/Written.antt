@@ -77,10 +77,12 @@ contents-written b h c = bytes-from 17 0 b (c .size) ∙ (λ i. c .form i ∷ c 
     third =
         entry-written (byte b 12) (byte b 13) (byte b 14) (byte b 15) (byte b 16) 3 (17 + extent b 0 + extent b 1) (drop 17 b) (drop 17 b)
         (c .kind-2) (omega arith) (byte-below b h 14) (byte-below b h 16) refl
+
     second : bytesFrom 5 7 b ++ (bytesFrom 5 12 b ++ drop 17 b) ≡ entryBytes 2 (17 + extent b 0) (extent b 1) ++ (entryBytes 3 (17 + extent b 0 + extent b 1) (extent b 2) ++ drop 17 b)
     second =
         entry-written (byte b 7) (byte b 8) (byte b 9) (byte b 10) (byte b 11) 2 (17 + extent b 0) (bytesFrom 5 12 b ++ drop 17 b)
         (entryBytes 3 (17 + extent b 0 + extent b 1) (extent b 2) ++ drop 17 b) (c .kind-1) (omega arith) (byte-below b h 9) (byte-below b h 11) third
+
     first : bytesFrom 5 2 b ++ (bytesFrom 5 7 b ++ (bytesFrom 5 12 b ++ drop 17 b))
         ≡ entryBytes 1 17 (extent b 0) ++ (entryBytes 2 (17 + extent b 0) (extent b 1) ++ (entryBytes 3 (17 + extent b 0 + extent b 1) (extent b 2) ++ drop 17 b))
     first =
@@ -96,6 +98,7 @@ bodies-follow b o p q x y z e f g =
   where
     third : drop q b ≡ take z (drop q b)
     third = sym (take-all z (drop q b) (omega (arith, length-drop q b)))
+
     second : drop p b ≡ take y (drop p b) ++ take z (drop q b)
     second =
         sym (take-append-drop y (drop p b)) ∙ ap {B = List ℕ} (take y (drop p b) ++_) (drop-drop y p b ∙ (ap {B = List ℕ} (λ n. drop n b) (sym f) ∙ third))
@@ -118,8 +121,8 @@ image-written b h n =
     let r = rules-right (imageTerminals b) (imageSymbols b) (body b 1) (a .rules) in
     let p = pairs-right (imageSymbols b) 0 0 (body b 2) (a .pairs) in
     let follow =
-            ap {B = List ℕ} (λ k. drop k b) (sym (c .offset-0))
-            ∙ bodies-follow b (offset b 0) (offset b 1) (offset b 2) (extent b 0) (extent b 1) (extent b 2) (c .offset-1) (c .offset-2) (c .ends)
+    ap {B = List ℕ} (λ k. drop k b) (sym (c .offset-0))
+    ∙ bodies-follow b (offset b 0) (offset b 1) (offset b 2) (extent b 0) (extent b 1) (extent b 2) (c .offset-1) (c .offset-2) (c .ends)
     in
     parts-written b (body b 0) (body b 1) (body b 2) (extent b 0) (extent b 1) (extent b 2) (body-length b c 0 (omega arith)) (body-length b c 1 (omega arith))
     (body-length b c 2 (omega arith)) (contents-written b h c ∙ ap {B = List ℕ} (contentsBytes (extent b 0) (extent b 1) (extent b 2) ++_) follow)
