@@ -1,0 +1,195 @@
+-- Every row of the bench holds: one computed test of the whole table, and one lemma that says what a passed test means.
+-- Assumes nothing.
+use mathlib.Core.Path.{_≡_, refl, sym, _∙_}
+use mathlib.Core.Logic.{_↔_, _≢_, _⊎_, inl, inr}
+use mathlib.Core.Bool.{Bool, true, false, not, _&&_, cond, and-eq-true-iff, false≢true}
+use mathlib.Core.List.{List, [], _∷_, List·Memᴰ, List·Memᴰ·not-nil, List·Memᴰ·cases-cons, map, flatMap}
+use Prim.Native.Nat.{ℕ, zero, suc, _≤_, _<_}
+use native.Mathlib.Omega.{arith}
+use lib.Dec.{eqb, ltb}
+use lib.ListN.{length}
+use borrow.Author.Tests.{eqb-true, eqb-false, ltb-true, ltb-false, not-false}
+use Rattle.paper.specs.Multiset.{keep, has, without, count, subMultisets}
+use Rattle.paper.specs.Grammar.{Grammar, IsGrammar, IsRow}
+use Rattle.paper.specs.Derivation.{InLanguage}
+use Rattle.paper.specs.Entry.{barred, mayTake, finished}
+use Rattle.paper.specs.Sheet.{Sheet, IsSheet, mask, word, sum, sumBelow, entries, startSteps, scanSteps, predictSteps, waiting, completeSteps, steps, isTop, tops}
+use Rattle.paper.specs.Price.{rests}
+use Rattle.paper.specs.Image.{allBelow, grammarOf, imageFault, contentsRight, symbolsRight, rulesFault, recordFault, recordRight, ascends, recordBefore}
+use Rattle.paper.specs.Image.{pairFault, pairsOf, closingFault, chained, paired, rulesOf}
+use Rattle.paper.specs.Outcome.{refusal, firstOf, imageRefusal, tooLong, strange, rowRefusal}
+use Rattle.paper.specs.Building.{insert, insertAll, close, below, seeds, predicted, completed, consequences, nextList, firstLists, sheetOf}
+use Rattle.paper.proofs.Records.{all-below}
+use Rattle.paper.proofs.Image.{image-grammar}
+use Rattle.paper.proofs.Building.{sheet-lists, sheet-ascending, sheet-found}
+use Rattle.paper.proofs.Standing.{theorem-7}
+use Rattle.bench.specs.Rows.{Said, unsaid, said, Agrees, Row, Counted, Holds, refused, overfull, read, unread, table}
+
+-- ---- the test
+
+-- two lists of numbers are the same
+sameList : List ℕ → List ℕ → Bool
+sameList [] [] = true
+sameList [] (b ∷ t) = false
+sameList (a ∷ s) [] = false
+sameList (a ∷ s) (b ∷ t) = eqb a b && sameList s t
+
+-- a count is as said, by a test of equality
+agrees : {A : Type 0} → (A → A → Bool) → Said A → A → Bool
+agrees same unsaid count = true
+agrees same (said value) count = same count value
+
+-- the counts of the sheet are as said
+countsRight : Row → Sheet → Bool
+countsRight row sheet =
+    agrees sameList (row .lists) (map length sheet)
+    && (agrees eqb (row .entries) (entries sheet)
+    && (agrees eqb (row .steps) (steps (grammarOf (row .image)) (row .tokens) sheet)
+    && agrees eqb (row .tops) (tops (grammarOf (row .image)) (row .tokens) sheet)))
+
+-- the number of a reading whose sheet this is: 24, 1 unread, 0 read
+verdict : (words entries tops : ℕ) → ℕ
+verdict words entries tops = cond (ltb words entries) 24 (cond (eqb tops 0) 1 0)
+
+-- the row is right, if its first refusal is this one (0: none)
+rightFor : Row → ℕ → Bool
+rightFor row zero =
+    let sheet = sheetOf (grammarOf (row .image)) (row .tokens) in
+    countsRight row sheet && eqb (row .number) (verdict (row .words) (entries sheet) (tops (grammarOf (row .image)) (row .tokens) sheet))
+rightFor row (suc number) = eqb (row .number) (suc number)
+
+right : Row → Bool
+right row = rightFor row (rowRefusal (row .image) (row .tokens))
+
+allRight : List Row → Bool
+allRight [] = true
+allRight (row ∷ rows) = right row && allRight rows
+
+-- The test of the whole table, by computation.
+table-right : allRight table ≡ true
+unfolding allRight right rightFor verdict countsRight agrees sameList table rowRefusal
+    imageFault contentsRight symbolsRight rulesFault recordFault recordRight ascends allBelow recordBefore pairFault pairsOf closingFault chained paired rulesOf grammarOf
+    sheetOf firstLists nextList consequences completed predicted seeds below close insertAll insert rests subMultisets flatMap keep has without count barred mayTake finished mask word
+    sum sumBelow entries startSteps scanSteps predictSteps waiting completeSteps steps isTop tops
+table-right = refl
+
+-- ---- what a passed test means
+
+same-list : (s t : List ℕ) → sameList s t ≡ true → s ≡ t
+unfolding sameList
+same-list [] [] h = refl
+same-list [] (b ∷ t) h = absurd (false≢true h)
+same-list (a ∷ s) [] h = absurd (false≢true h)
+same-list (a ∷ s) (b ∷ t) h =
+    let both = and-eq-true-iff (eqb a b) (sameList s t) .0 h in
+    let first : a ≡ b = eqb-true a b (both .0) in
+    let others : s ≡ t = same-list s t (both .1) in
+    cc
+
+agree : {A : Type 0} (same : A → A → Bool) → ((a b : A) → same a b ≡ true → a ≡ b) → (what : Said A) (count : A) → agrees same what count ≡ true → Agrees what count
+unfolding agrees
+agree same sound unsaid count h = record { agree = λ value e. let z : _≡_ {A = ℕ} 0 1 = cc in let k : ⊥ = omega arith in absurd k }
+agree same sound (said v) count h = record { agree = λ value e. let c : count ≡ v = sound count v h in cc }
+
+-- a row that has no refusal of 10 to 14, 20 and 21
+record Fit (row : Row) : Type 0 where
+  is-grammar : IsGrammar (grammarOf (row .image))
+  short : length (row .tokens) ≤ 64
+  is-row : IsRow (grammarOf (row .image)) (row .tokens)
+
+first-none : (n : ℕ) (numbers : List ℕ) → firstOf (n ∷ numbers) ≡ 0 → (n ≡ 0) × (firstOf numbers ≡ 0)
+first-none zero numbers h = (refl, h)
+first-none (suc n) numbers h = let k : ⊥ = omega arith in absurd k
+
+no-refusal : (n : ℕ) (holds : Bool) → refusal (suc n) holds ≡ 0 → holds ≡ false
+no-refusal n true h = let k : ⊥ = omega arith in absurd k
+no-refusal n false h = refl
+
+row-fit : (row : Row) → rowRefusal (row .image) (row .tokens) ≡ 0 → Fit row
+unfolding rowRefusal
+row-fit row h =
+    let g = grammarOf (row .image) in
+    let image = first-none (imageRefusal (row .image)) (tooLong (length (row .tokens)) ∷ strange g (row .tokens) ∷ []) h in
+    let long = first-none (tooLong (length (row .tokens))) (strange g (row .tokens) ∷ []) (image .1) in
+    let odd = first-none (strange g (row .tokens)) [] (long .1) in
+    let known = not-false (allBelow (g .terminals) (row .tokens)) (no-refusal 20 (not (allBelow (g .terminals) (row .tokens))) (odd .0)) in
+    record {
+      is-grammar = image-grammar (row .image) (image .0);
+      short = ltb-false 64 (length (row .tokens)) (no-refusal 19 (ltb 64 (length (row .tokens))) (long .0));
+      is-row = record { tokens-are = λ k l. record { below = all-below (g .terminals) (row .tokens) known k l } };
+    }
+
+-- the counts of the sheet of the row
+counted : (row : Row) (sheet : Sheet) → IsSheet (grammarOf (row .image)) (row .tokens) sheet → countsRight row sheet ≡ true → Counted row
+unfolding countsRight
+counted row sheet is h =
+    let g = grammarOf (row .image) in
+    let onSteps = agrees eqb (row .steps) (steps g (row .tokens) sheet) in
+    let onTops = agrees eqb (row .tops) (tops g (row .tokens) sheet) in
+    let onEntries = agrees eqb (row .entries) (entries sheet) in
+    let a = and-eq-true-iff (agrees sameList (row .lists) (map length sheet)) (onEntries && (onSteps && onTops)) .0 h in
+    let b = and-eq-true-iff onEntries (onSteps && onTops) .0 (a .1) in
+    let c = and-eq-true-iff onSteps onTops .0 (b .1) in
+    record {
+      sheet = sheet;
+      is-sheet = is;
+      lists-are = agree sameList same-list (row .lists) (map length sheet) (a .0);
+      entries-are = agree eqb eqb-true (row .entries) (entries sheet) (b .0);
+      steps-are = agree eqb eqb-true (row .steps) (steps g (row .tokens) sheet) (c .0);
+      tops-are = agree eqb eqb-true (row .tops) (tops g (row .tokens) sheet) (c .1);
+    }
+
+-- by the sheet, a row is overfull, read or unread
+judged : (row : Row) → rowRefusal (row .image) (row .tokens) ≡ 0 → (c : Counted row)
+    → (1 ≤ tops (grammarOf (row .image)) (row .tokens) (c .sheet)) ↔ InLanguage (grammarOf (row .image)) (row .tokens)
+    → row .number ≡ verdict (row .words) (entries (c .sheet)) (tops (grammarOf (row .image)) (row .tokens) (c .sheet)) → Holds row
+unfolding verdict
+judged row free c language h = on-words (ltb (row .words) (entries (c .sheet))) refl
+  where
+    n : ℕ
+    n = tops (grammarOf (row .image)) (row .tokens) (c .sheet)
+
+    on-tops : (t : Bool) → eqb n 0 ≡ t → entries (c .sheet) ≤ row .words → row .number ≡ cond t 1 0 → Holds row
+    on-tops true e fits is = unread free c fits (λ l. let z : n ≡ 0 = eqb-true n 0 e in let some : 1 ≤ n = language .1 l in let k : ⊥ = omega arith in k) is
+    on-tops false e fits is = read free c fits (language .0 (let z : n ≢ 0 = eqb-false n 0 e in omega arith)) is
+
+    on-words : (t : Bool) → ltb (row .words) (entries (c .sheet)) ≡ t → Holds row
+    on-words true e = overfull free c (ltb-true (row .words) (entries (c .sheet)) e) (rw e at h)
+    on-words false e = on-tops (eqb n 0) refl (ltb-false (row .words) (entries (c .sheet)) e) (rw e at h)
+
+-- the sheet of the row, as it is built
+built : (row : Row) → Fit row → IsSheet (grammarOf (row .image)) (row .tokens) (sheetOf (grammarOf (row .image)) (row .tokens))
+built row fit =
+    let g = grammarOf (row .image) in
+    record {
+      lists = sheet-lists g (row .tokens);
+      exact = λ j e. (λ m. theorem-7 (fit .is-grammar .order) .0 (sheet-found g (row .tokens) (fit .is-grammar) (fit .short) j e .0 m)
+                     , λ s. sheet-found g (row .tokens) (fit .is-grammar) (fit .short) j e .1 (theorem-7 (fit .is-grammar .order) .1 s));
+      ascending = sheet-ascending g (row .tokens) (fit .is-grammar) (fit .short);
+    }
+
+module _ (theorem-1 : (g : Grammar) (row : List ℕ) (sheet : Sheet) → IsGrammar g → IsRow g row → IsSheet g row sheet → (1 ≤ tops g row sheet) ↔ InLanguage g row) where
+  right-for : (row : Row) (n : ℕ) → rowRefusal (row .image) (row .tokens) ≡ n → rightFor row n ≡ true → Holds row
+  unfolding rightFor counted
+  right-for row zero e h =
+      let g = grammarOf (row .image) in
+      let sheet = sheetOf g (row .tokens) in
+      let fit = row-fit row e in
+      let is = built row fit in
+      let number = verdict (row .words) (entries sheet) (tops g (row .tokens) sheet) in
+      let both = and-eq-true-iff (countsRight row sheet) (eqb (row .number) number) .0 h in
+      judged row e (counted row sheet is (both .0)) (theorem-1 g (row .tokens) sheet (fit .is-grammar) (fit .is-row) is) (eqb-true (row .number) number (both .1))
+  right-for row (suc n) e h = refused (λ z. let k : ⊥ = omega arith in k) (eqb-true (row .number) (suc n) h ∙ sym e)
+
+  all-hold : {row : Row} (rows : List Row) → allRight rows ≡ true → List·Memᴰ row rows → Holds row
+  unfolding allRight right
+  all-hold [] h m = absurd (List·Memᴰ·not-nil m)
+  all-hold {row} (first ∷ rows) h m = go (and-eq-true-iff (right first) (allRight rows) .0 h) (List·Memᴰ·cases-cons m) (all-hold rows)
+    where
+      go : (right first ≡ true) × (allRight rows ≡ true) → (row ≡ first) ⊎ List·Memᴰ row rows → (allRight rows ≡ true → List·Memᴰ row rows → Holds row) → Holds row
+      go h (inl e) later = rw e (right-for first (rowRefusal (first .image) (first .tokens)) refl (h .0))
+      go h (inr n) later = later (h .1) n
+
+  -- Every row of the bench holds.
+  pub bench : {row : Row} → List·Memᴰ row table → Holds row
+  bench = all-hold table table-right
