@@ -21,8 +21,7 @@ use Rattle.paper.specs.Outcome.{refusal, firstOf, imageRefusal, tooLong, strang
 use Rattle.paper.specs.Building.{insert, insertAll, close, below, seeds, predicted, completed, consequences, nextList, firstLists, sheetOf}
 use Rattle.paper.proofs.Records.{all-below}
 use Rattle.paper.proofs.Image.{image-grammar}
-use Rattle.paper.proofs.Building.{sheet-lists, sheet-ascending, sheet-found}
-use Rattle.paper.proofs.Standing.{theorem-7}
+use Rattle.paper.proofs.Theorem1.{sheet-exists, theorem-1}
 use Rattle.bench.specs.Rows.{Said, unsaid, said, Agrees, Row, Counted, Holds, refused, overfull, read, unread, table}
 
 -- ---- the test
@@ -157,39 +156,27 @@ judged row free c language h = on-words (ltb (row .words) (entries (c .sheet))) 
     on-words true e = overfull free c (ltb-true (row .words) (entries (c .sheet)) e) (rw e at h)
     on-words false e = on-tops (eqb n 0) refl (ltb-false (row .words) (entries (c .sheet)) e) (rw e at h)
 
--- the sheet of the row, as it is built
-built : (row : Row) → Fit row → IsSheet (grammarOf (row .image)) (row .tokens) (sheetOf (grammarOf (row .image)) (row .tokens))
-built row fit =
+right-for : (row : Row) (n : ℕ) → rowRefusal (row .image) (row .tokens) ≡ n → rightFor row n ≡ true → Holds row
+unfolding rightFor counted
+right-for row zero e h =
     let g = grammarOf (row .image) in
-    record {
-      lists = sheet-lists g (row .tokens);
-      exact = λ j e. (λ m. theorem-7 (fit .is-grammar .order) .0 (sheet-found g (row .tokens) (fit .is-grammar) (fit .short) j e .0 m)
-                     , λ s. sheet-found g (row .tokens) (fit .is-grammar) (fit .short) j e .1 (theorem-7 (fit .is-grammar .order) .1 s));
-      ascending = sheet-ascending g (row .tokens) (fit .is-grammar) (fit .short);
-    }
+    let sheet = sheetOf g (row .tokens) in
+    let fit = row-fit row e in
+    let is = sheet-exists g (row .tokens) (fit .is-grammar) (fit .short) in
+    let number = verdict (row .words) (entries sheet) (tops g (row .tokens) sheet) in
+    let both = and-eq-true-iff (countsRight row sheet) (eqb (row .number) number) .0 h in
+    judged row e (counted row sheet is (both .0)) (theorem-1 (fit .is-grammar) (fit .is-row) is) (eqb-true (row .number) number (both .1))
+right-for row (suc n) e h = refused (λ z. let k : ⊥ = omega arith in k) (eqb-true (row .number) (suc n) h ∙ sym e)
 
-module _ (theorem-1 : (g : Grammar) (row : List ℕ) (sheet : Sheet) → IsGrammar g → IsRow g row → IsSheet g row sheet → (1 ≤ tops g row sheet) ↔ InLanguage g row) where
-  right-for : (row : Row) (n : ℕ) → rowRefusal (row .image) (row .tokens) ≡ n → rightFor row n ≡ true → Holds row
-  unfolding rightFor counted
-  right-for row zero e h =
-      let g = grammarOf (row .image) in
-      let sheet = sheetOf g (row .tokens) in
-      let fit = row-fit row e in
-      let is = built row fit in
-      let number = verdict (row .words) (entries sheet) (tops g (row .tokens) sheet) in
-      let both = and-eq-true-iff (countsRight row sheet) (eqb (row .number) number) .0 h in
-      judged row e (counted row sheet is (both .0)) (theorem-1 g (row .tokens) sheet (fit .is-grammar) (fit .is-row) is) (eqb-true (row .number) number (both .1))
-  right-for row (suc n) e h = refused (λ z. let k : ⊥ = omega arith in k) (eqb-true (row .number) (suc n) h ∙ sym e)
+all-hold : {row : Row} (rows : List Row) → allRight rows ≡ true → List·Memᴰ row rows → Holds row
+unfolding allRight right
+all-hold [] h m = absurd (List·Memᴰ·not-nil m)
+all-hold {row} (first ∷ rows) h m = go (and-eq-true-iff (right first) (allRight rows) .0 h) (List·Memᴰ·cases-cons m) (all-hold rows)
+  where
+    go : (right first ≡ true) × (allRight rows ≡ true) → (row ≡ first) ⊎ List·Memᴰ row rows → (allRight rows ≡ true → List·Memᴰ row rows → Holds row) → Holds row
+    go h (inl e) later = rw e (right-for first (rowRefusal (first .image) (first .tokens)) refl (h .0))
+    go h (inr n) later = later (h .1) n
 
-  all-hold : {row : Row} (rows : List Row) → allRight rows ≡ true → List·Memᴰ row rows → Holds row
-  unfolding allRight right
-  all-hold [] h m = absurd (List·Memᴰ·not-nil m)
-  all-hold {row} (first ∷ rows) h m = go (and-eq-true-iff (right first) (allRight rows) .0 h) (List·Memᴰ·cases-cons m) (all-hold rows)
-    where
-      go : (right first ≡ true) × (allRight rows ≡ true) → (row ≡ first) ⊎ List·Memᴰ row rows → (allRight rows ≡ true → List·Memᴰ row rows → Holds row) → Holds row
-      go h (inl e) later = rw e (right-for first (rowRefusal (first .image) (first .tokens)) refl (h .0))
-      go h (inr n) later = later (h .1) n
-
-  -- Every row of the bench holds.
-  pub bench : {row : Row} → List·Memᴰ row table → Holds row
-  bench = all-hold table table-right
+-- Every row of the bench holds.
+pub bench : {row : Row} → List·Memᴰ row table → Holds row
+bench = all-hold table table-right
