@@ -1,1 +1,2 @@
+pub mod LineTest
 pub mod Bench
