@@ -1,6 +1,6 @@
 -- Every row of the bench holds: one computed test of the whole table, and one lemma that says what a passed test means.
 -- Assumes nothing.
-use mathlib.Core.Path.{_≡_, refl, sym, _∙_}
+use mathlib.Core.Path.{_≡_, refl, sym, _∙_, ap₂}
 use mathlib.Core.Logic.{_↔_, _≢_, _⊎_, inl, inr}
 use mathlib.Core.Bool.{Bool, true, false, not, _&&_, cond, and-eq-true-iff, false≢true}
 use mathlib.Core.List.{List, [], _∷_, List·Memᴰ, List·Memᴰ·not-nil, List·Memᴰ·cases-cons, map, flatMap}
@@ -9,7 +9,7 @@ use native.Mathlib.Omega.{arith}
 use lib.Dec.{eqb, ltb}
 use lib.ListN.{length}
 use borrow.Author.Tests.{eqb-true, eqb-false, ltb-true, ltb-false, not-false}
-use Rattle.paper.specs.Multiset.{keep, has, without, count, subMultisets}
+use Rattle.paper.specs.Multiset.{minus, keep, has, without, count, subMultisets}
 use Rattle.paper.specs.Grammar.{Grammar, IsGrammar, IsRow}
 use Rattle.paper.specs.Derivation.{InLanguage}
 use Rattle.paper.specs.Entry.{barred, mayTake, finished}
@@ -17,12 +17,17 @@ use Rattle.paper.specs.Sheet.{Sheet, IsSheet, mask, word, sum, sumBelow, entrie
 use Rattle.paper.specs.Price.{rests}
 use Rattle.paper.specs.Image.{allBelow, grammarOf, imageFault, contentsRight, symbolsRight, rulesFault, recordFault, recordRight, ascends, recordBefore}
 use Rattle.paper.specs.Image.{pairFault, pairsOf, closingFault, chained, paired, rulesOf}
-use Rattle.paper.specs.Outcome.{refusal, firstOf, imageRefusal, tooLong, strange, rowRefusal}
+use Rattle.paper.specs.Lines.{lineCount, digits, partsText, lineText, textsBelow}
+use Rattle.paper.specs.Outcome.{refusal, firstOf, imageRefusal, tooLong, strange, rowRefusal, lastBracket}
 use Rattle.paper.specs.Building.{insert, insertAll, close, below, seeds, predicted, completed, consequences, nextList, firstLists, sheetOf}
 use Rattle.paper.proofs.Records.{all-below}
 use Rattle.paper.proofs.Image.{image-grammar}
+use Rattle.paper.proofs.Machine.{mayTakeAll}
+use Rattle.paper.proofs.Standing.{language-tree}
+use Rattle.paper.proofs.Writing.{lines-exist}
 use Rattle.paper.proofs.Theorem1.{sheet-exists, theorem-1}
-use Rattle.bench.specs.Rows.{Said, unsaid, said, Agrees, Row, Counted, Holds, refused, overfull, read, unread, table}
+use Rattle.bench.specs.Rows.{Said, unsaid, said, Agrees, Derivation, Row, Counted, Derived, Holds, refused, overfull, read, unread, table}
+use Rattle.bench.proofs.LineTest.{everyBelow, someBelow, partSymbols, joined, arranges, pastRight, shared, lineTest, usedBy, wholeTest, linesTest, lines-valid}
 
 -- ---- the test
 
@@ -33,10 +38,13 @@ sameList [] (b ∷ t) = false
 sameList (a ∷ s) [] = false
 sameList (a ∷ s) (b ∷ t) = eqb a b && sameList s t
 
--- a count is as said, by a test of equality
+sameDerivation : Derivation → Derivation → Bool
+sameDerivation d e = eqb (d .lines) (e .lines) && sameList (d .bracket) (e .bracket)
+
+-- a value is as said, by a test of equality
 agrees : {A : Type 0} → (A → A → Bool) → Said A → A → Bool
-agrees same unsaid count = true
-agrees same (said value) count = same count value
+agrees same unsaid value = true
+agrees same (said expected) value = same value expected
 
 -- the counts of the sheet are as said
 countsRight : Row → Sheet → Bool
@@ -46,6 +54,23 @@ countsRight row sheet =
     && (agrees eqb (row .steps) (steps (grammarOf (row .image)) (row .tokens) sheet)
     && agrees eqb (row .tops) (tops (grammarOf (row .image)) (row .tokens) sheet)))
 
+-- lines of the row `3 1 1 0 2` of the house grammar: serial over 0 to 2, rating over 2 to 5, plate of both
+plateLines : List ℕ
+plateLines =
+    2 ∷ 0 ∷ 2 ∷ 2 ∷ 0 ∷ 0 ∷ 0 ∷ 0 ∷ 0 ∷ 0 ∷ 0 ∷ 0
+    ∷ 1 ∷ 2 ∷ 5 ∷ 3 ∷ 0 ∷ 0 ∷ 0 ∷ 0 ∷ 0 ∷ 0 ∷ 0 ∷ 0
+    ∷ 0 ∷ 0 ∷ 5 ∷ 2 ∷ 1 ∷ 2 ∷ 0 ∷ 0 ∷ 0 ∷ 0 ∷ 0 ∷ 0
+    ∷ []
+
+-- the count and the bracket of lines
+derivationOf : List ℕ → List ℕ → Derivation
+derivationOf tokens lines = record { lines = lineCount lines; bracket = lastBracket tokens lines }
+
+-- the derivation of the row is as said, if anything is said: these lines show it
+derivationRight : Row → Said Derivation → Bool
+derivationRight row unsaid = true
+derivationRight row (said expected) = linesTest (grammarOf (row .image)) (row .tokens) plateLines && sameDerivation (derivationOf (row .tokens) plateLines) expected
+
 -- the number of a reading whose sheet this is: 24, 1 unread, 0 read
 verdict : (words entries tops : ℕ) → ℕ
 verdict words entries tops = cond (ltb words entries) 24 (cond (eqb tops 0) 1 0)
@@ -54,7 +79,9 @@ verdict words entries tops = cond (ltb words entries) 24 (cond (eqb tops 0) 1 0)
 rightFor : Row → ℕ → Bool
 rightFor row zero =
     let sheet = sheetOf (grammarOf (row .image)) (row .tokens) in
-    countsRight row sheet && eqb (row .number) (verdict (row .words) (entries sheet) (tops (grammarOf (row .image)) (row .tokens) sheet))
+    countsRight row sheet
+    && (derivationRight row (row .derivation)
+    && eqb (row .number) (verdict (row .words) (entries sheet) (tops (grammarOf (row .image)) (row .tokens) sheet)))
 rightFor row (suc number) = eqb (row .number) (suc number)
 
 right : Row → Bool
@@ -66,10 +93,11 @@ allRight (row ∷ rows) = right row && allRight rows
 
 -- The test of the whole table, by computation.
 table-right : allRight table ≡ true
-unfolding allRight right rightFor verdict countsRight agrees sameList table rowRefusal
+unfolding allRight right rightFor verdict countsRight derivationRight plateLines derivationOf agrees sameList sameDerivation table rowRefusal
     imageFault contentsRight symbolsRight rulesFault recordFault recordRight ascends allBelow recordBefore pairFault pairsOf closingFault chained paired rulesOf grammarOf
     sheetOf firstLists nextList consequences completed predicted seeds below close insertAll insert rests subMultisets flatMap keep has without count barred mayTake finished mask word
     sum sumBelow entries startSteps scanSteps predictSteps waiting completeSteps steps isTop tops
+    linesTest everyBelow someBelow lineTest pastRight joined partSymbols arranges mayTakeAll minus shared wholeTest usedBy textsBelow lineText partsText digits
 table-right = refl
 
 -- ---- what a passed test means
@@ -85,10 +113,24 @@ same-list (a ∷ s) (b ∷ t) h =
     let others : s ≡ t = same-list s t (both .1) in
     cc
 
-agree : {A : Type 0} (same : A → A → Bool) → ((a b : A) → same a b ≡ true → a ≡ b) → (what : Said A) (count : A) → agrees same what count ≡ true → Agrees what count
+same-derivation : (d e : Derivation) → sameDerivation d e ≡ true → d ≡ e
+unfolding sameDerivation
+same-derivation d e h =
+    let both = and-eq-true-iff (eqb (d .lines) (e .lines)) (sameList (d .bracket) (e .bracket)) .0 h in
+    let counts : d .lines ≡ e .lines = eqb-true (d .lines) (e .lines) (both .0) in
+    let brackets : d .bracket ≡ e .bracket = same-list (d .bracket) (e .bracket) (both .1) in
+    ap₂ (λ (n : ℕ) (b : List ℕ). record { lines = n; bracket = b }) counts brackets
+
+nothing-said : {A : Type 0} (value : A) → Agrees unsaid value
+nothing-said value = record { agree = λ expected e. let z : _≡_ {A = ℕ} 0 1 = cc in let k : ⊥ = omega arith in absurd k }
+
+as-said : {A : Type 0} (expected value : A) → value ≡ expected → Agrees (said expected) value
+as-said expected value h = record { agree = λ other e. cc }
+
+agree : {A : Type 0} (same : A → A → Bool) → ((a b : A) → same a b ≡ true → a ≡ b) → (what : Said A) (value : A) → agrees same what value ≡ true → Agrees what value
 unfolding agrees
-agree same sound unsaid count h = record { agree = λ value e. let z : _≡_ {A = ℕ} 0 1 = cc in let k : ⊥ = omega arith in absurd k }
-agree same sound (said v) count h = record { agree = λ value e. let c : count ≡ v = sound count v h in cc }
+agree same sound unsaid value h = nothing-said value
+agree same sound (said expected) value h = as-said expected value (sound value expected h)
 
 -- a row that has no refusal of 10 to 14, 20 and 21
 record Fit (row : Row) : Type 0 where
@@ -138,19 +180,38 @@ counted row sheet is h =
       tops-are = agree eqb eqb-true (row .tops) (tops g (row .tokens) sheet) (c .1);
     }
 
+-- a row of the language has valid lines: some, or where the derivation is said those that show it
+derived : (row : Row) → Fit row → (what : Said Derivation) → row .derivation ≡ what → derivationRight row what ≡ true → InLanguage (grammarOf (row .image)) (row .tokens) → Derived row
+unfolding derivationRight derivationOf
+derived row fit unsaid e h l =
+    let (written, valid) = lines-exist (fit .is-grammar) (fit .is-row) (language-tree (fit .is-row) .0 l) in
+    record { written = written; valid = valid; derivation-is = rw e (nothing-said (derivationOf (row .tokens) written)) }
+derived row fit (said expected) e h l =
+    let shown = derivationOf (row .tokens) plateLines in
+    let both = and-eq-true-iff (linesTest (grammarOf (row .image)) (row .tokens) plateLines) (sameDerivation shown expected) .0 h in
+    record {
+      written = plateLines;
+      valid = lines-valid (grammarOf (row .image)) (row .tokens) plateLines (both .0);
+      derivation-is = rw e (as-said expected shown (same-derivation shown expected (both .1)));
+    }
+
 -- by the sheet, a row is overfull, read or unread
 judged : (row : Row) → rowRefusal (row .image) (row .tokens) ≡ 0 → (c : Counted row)
     → (1 ≤ tops (grammarOf (row .image)) (row .tokens) (c .sheet)) ↔ InLanguage (grammarOf (row .image)) (row .tokens)
+    → (InLanguage (grammarOf (row .image)) (row .tokens) → Derived row)
     → row .number ≡ verdict (row .words) (entries (c .sheet)) (tops (grammarOf (row .image)) (row .tokens) (c .sheet)) → Holds row
 unfolding verdict
-judged row free c language h = on-words (ltb (row .words) (entries (c .sheet))) refl
+judged row free c language lines h = on-words (ltb (row .words) (entries (c .sheet))) refl
   where
     n : ℕ
     n = tops (grammarOf (row .image)) (row .tokens) (c .sheet)
 
     on-tops : (t : Bool) → eqb n 0 ≡ t → entries (c .sheet) ≤ row .words → row .number ≡ cond t 1 0 → Holds row
     on-tops true e fits is = unread free c fits (λ l. let z : n ≡ 0 = eqb-true n 0 e in let some : 1 ≤ n = language .1 l in let k : ⊥ = omega arith in k) is
-    on-tops false e fits is = read free c fits (language .0 (let z : n ≢ 0 = eqb-false n 0 e in omega arith)) is
+    on-tops false e fits is =
+        let z : n ≢ 0 = eqb-false n 0 e in
+        let l = language .0 (omega arith) in
+        read free c fits l (lines l) is
 
     on-words : (t : Bool) → ltb (row .words) (entries (c .sheet)) ≡ t → Holds row
     on-words true e = overfull free c (ltb-true (row .words) (entries (c .sheet)) e) (rw e at h)
@@ -164,8 +225,10 @@ right-for row zero e h =
     let fit = row-fit row e in
     let is = sheet-exists g (row .tokens) (fit .is-grammar) (fit .short) in
     let number = verdict (row .words) (entries sheet) (tops g (row .tokens) sheet) in
-    let both = and-eq-true-iff (countsRight row sheet) (eqb (row .number) number) .0 h in
-    judged row e (counted row sheet is (both .0)) (theorem-1 (fit .is-grammar) (fit .is-row) is) (eqb-true (row .number) number (both .1))
+    let lines = derivationRight row (row .derivation) in
+    let (counts, t) = and-eq-true-iff (countsRight row sheet) (lines && eqb (row .number) number) .0 h in
+    let (shown, numbers) = and-eq-true-iff lines (eqb (row .number) number) .0 t in
+    judged row e (counted row sheet is counts) (theorem-1 (fit .is-grammar) (fit .is-row) is) (derived row fit (row .derivation) refl shown) (eqb-true (row .number) number numbers)
 right-for row (suc n) e h = refused (λ z. let k : ⊥ = omega arith in k) (eqb-true (row .number) (suc n) h ∙ sym e)
 
 all-hold : {row : Row} (rows : List Row) → allRight rows ≡ true → List·Memᴰ row rows → Holds row

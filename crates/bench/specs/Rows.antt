@@ -9,16 +9,22 @@ use Rattle.paper.specs.Derivation.{InLanguage}
 use Rattle.paper.specs.Sheet.{Sheet, IsSheet, entries, steps, tops}
 use Rattle.paper.specs.Image.{grammarOf, house}
 use Rattle.paper.specs.Written.{imageBytes}
-use Rattle.paper.specs.Outcome.{rowRefusal}
+use Rattle.paper.specs.Lines.{lineCount, Valid}
+use Rattle.paper.specs.Outcome.{rowRefusal, lastBracket}
 
--- what document 01 says of a count: nothing, or its value
+-- what document 01 says of a value: nothing, or which it is
 pub data Said (A : Type 0) : Type 0 where
   unsaid : Said A
   said : A → Said A
 
--- the count is as said
-pub record Agrees {A : Type 0} (what : Said A) (count : A) : Type 0 where
-  pub agree : (value : A) → what ≡ said value → count ≡ value
+-- the value is as said
+pub record Agrees {A : Type 0} (what : Said A) (value : A) : Type 0 where
+  pub agree : (expected : A) → what ≡ said expected → value ≡ expected
+
+-- how many derivation lines there are, and the bracket of the last
+pub record Derivation : Type 0 where
+  pub lines : ℕ
+  pub bracket : List ℕ
 
 -- A row of the bench: what is given to a reading, and what document 01 says of it.
 pub record Row : Type 0 where
@@ -33,6 +39,7 @@ pub record Row : Type 0 where
   pub entries : Said ℕ
   pub steps : Said ℕ
   pub tops : Said ℕ
+  pub derivation : Said Derivation
 
 -- The sheet of the row has the counts that are said.
 pub record Counted (row : Row) : Type 0 where
@@ -43,6 +50,12 @@ pub record Counted (row : Row) : Type 0 where
   pub steps-are : Agrees (row .steps) (steps (grammarOf (row .image)) (row .tokens) sheet)
   pub tops-are : Agrees (row .tops) (tops (grammarOf (row .image)) (row .tokens) sheet)
 
+-- There are valid lines, as many as said and with the bracket that is said. Which valid lines they are, and in which order, is not settled.
+pub record Derived (row : Row) : Type 0 where
+  pub written : List ℕ
+  pub valid : Valid (grammarOf (row .image)) (row .tokens) written
+  pub derivation-is : Agrees (row .derivation) (record { lines = lineCount written; bracket = lastBracket (row .tokens) written })
+
 -- The row holds: its number is the one of the case that it is in, and the counts of its sheet are as said.
 pub data Holds (row : Row) : Type 0 where
   -- 10 to 14, 20, 21
@@ -50,7 +63,7 @@ pub data Holds (row : Row) : Type 0 where
   -- 24: "more entries than the sheet has words"
   overfull : rowRefusal (row .image) (row .tokens) ≡ 0 → (c : Counted row) → row .words < entries (c .sheet) → row .number ≡ 24 → Holds row
   read : rowRefusal (row .image) (row .tokens) ≡ 0 → (c : Counted row) → entries (c .sheet) ≤ row .words → InLanguage (grammarOf (row .image)) (row .tokens)
-      → row .number ≡ 0 → Holds row
+      → Derived row → row .number ≡ 0 → Holds row
   unread : rowRefusal (row .image) (row .tokens) ≡ 0 → (c : Counted row) → entries (c .sheet) ≤ row .words
       → (InLanguage (grammarOf (row .image)) (row .tokens) → ⊥) → row .number ≡ 1 → Holds row
 
@@ -61,19 +74,19 @@ lent = 16384
 -- a row of which only a refusal is said
 abbrev pub refusing : List ℕ → List ℕ → ℕ → ℕ → Row
 refusing image tokens words number =
-    record { image = image; tokens = tokens; words = words; number = number; lists = unsaid; entries = unsaid; steps = unsaid; tops = unsaid }
+    record { image = image; tokens = tokens; words = words; number = number; lists = unsaid; entries = unsaid; steps = unsaid; tops = unsaid; derivation = unsaid }
 
 -- a row that is read, with the entries and steps that are said
 abbrev pub reading : List ℕ → List ℕ → Said ℕ → Said ℕ → Row
 reading image tokens entries steps =
-    record { image = image; tokens = tokens; words = lent; number = 0; lists = unsaid; entries = entries; steps = steps; tops = unsaid }
+    record { image = image; tokens = tokens; words = lent; number = 0; lists = unsaid; entries = entries; steps = steps; tops = unsaid; derivation = unsaid }
 
 -- a row that is unread; "An unread row prints `unread` for `read`, with lines 0 and tops 0"
 abbrev pub unreading : List ℕ → List ℕ → Said ℕ → Said ℕ → Row
 unreading image tokens entries steps =
-    record { image = image; tokens = tokens; words = lent; number = 1; lists = unsaid; entries = entries; steps = steps; tops = said 0 }
+    record { image = image; tokens = tokens; words = lent; number = 1; lists = unsaid; entries = entries; steps = steps; tops = said 0; derivation = unsaid }
 
--- The plate of "The program": `read entries 11 steps 11 .. tops 1`, and the second line `3 1 3 1 1 2`, with so many sheet words
+-- The plate of "The program", with so many sheet words: `read entries 11 steps 11 lines 3 tops 1`, then `3 1 3 1 1 2`, then `(0(2 3 1)(1 1 0 2))`, here as bytes
 abbrev pub plate : ℕ → Row
 plate words =
     record {
@@ -85,6 +98,7 @@ plate words =
       entries = said 11;
       steps = said 11;
       tops = said 1;
+      derivation = said (record { lines = 3; bracket = 40 ∷ 48 ∷ 40 ∷ 50 ∷ 32 ∷ 51 ∷ 32 ∷ 49 ∷ 41 ∷ 40 ∷ 49 ∷ 32 ∷ 49 ∷ 32 ∷ 48 ∷ 32 ∷ 50 ∷ 41 ∷ 41 ∷ [] });
     }
 
 -- Images with one nonterminal, the start symbol. Their bodies: symbols (T, N, start), rules (how many; left symbol, how many members, members), order.
