@@ -1,2 +1,3 @@
 pub mod LineTest
 pub mod Bench
+pub mod Answers

@@ -10,7 +10,9 @@ use Rattle.paper.specs.Sheet.{Sheet, IsSheet, entries, steps, tops}
 use Rattle.paper.specs.Image.{grammarOf, house}
 use Rattle.paper.specs.Written.{imageBytes}
 use Rattle.paper.specs.Lines.{lineCount, Valid}
-use Rattle.paper.specs.Outcome.{rowRefusal, lastBracket}
+use Rattle.paper.specs.Outcome.{rowRefusal, lastBracket, readingNumber}
+use Rattle.paper.specs.declared.Counts.{Counts}
+use Rattle.paper.specs.declared.Reading.{Reading}
 
 -- what document 01 says of a value: nothing, or which it is
 pub data Said (A : Type 0) : Type 0 where
@@ -66,6 +68,18 @@ pub data Holds (row : Row) : Type 0 where
       → Derived row → row .number ≡ 0 → Holds row
   unread : rowRefusal (row .image) (row .tokens) ≡ 0 → (c : Counted row) → entries (c .sheet) ≤ row .words
       → (InLanguage (grammarOf (row .image)) (row .tokens) → ⊥) → row .number ≡ 1 → Holds row
+
+-- the counts of an answer are as said
+pub record CountsSaid (row : Row) (counts : Counts) : Type 0 where
+  pub entries-are : Agrees (row .entries) (counts .entries)
+  pub steps-are : Agrees (row .steps) (counts .steps)
+  pub tops-are : Agrees (row .tops) (counts .tops)
+
+-- An answer of a reading is as the row says: its number and, if it has any, its counts.
+pub record Answers (row : Row) (answer : Reading) : Type 0 where
+  pub number-is : readingNumber answer ≡ row .number
+  pub if-read : (counts : Counts) → answer ≡ Reading.Read counts → CountsSaid row counts
+  pub if-unread : (counts : Counts) → answer ≡ Reading.Unread counts → CountsSaid row counts
 
 -- 01, "The program": "It lends 16,384 sheet words"
 abbrev pub lent : ℕ
