@@ -4,13 +4,13 @@ use mathlib.Core.Path.{_≡_, refl, sym, _∙_, ap₂}
 use mathlib.Core.Logic.{_↔_, _≢_, _⊎_, inl, inr}
 use mathlib.Core.Bool.{Bool, true, false, not, _&&_, cond, and-eq-true-iff, false≢true}
 use mathlib.Core.List.{List, [], _∷_, List·Memᴰ, List·Memᴰ·not-nil, List·Memᴰ·cases-cons, map, flatMap}
-use Prim.Native.Nat.{ℕ, zero, suc, _≤_, _<_}
+use Prim.Native.Nat.{ℕ, zero, suc, _≤_}
 use native.Mathlib.Omega.{arith}
 use lib.Dec.{eqb, ltb}
 use lib.ListN.{length}
 use borrow.Author.Tests.{eqb-true, eqb-false, ltb-true, ltb-false, not-false}
 use Rattle.paper.specs.Multiset.{minus, keep, has, without, count, subMultisets}
-use Rattle.paper.specs.Grammar.{Grammar, IsGrammar, IsRow}
+use Rattle.paper.specs.Grammar.{IsGrammar, IsRow}
 use Rattle.paper.specs.Derivation.{InLanguage}
 use Rattle.paper.specs.Entry.{barred, mayTake, finished}
 use Rattle.paper.specs.Sheet.{Sheet, IsSheet, mask, word, sum, sumBelow, entries, startSteps, scanSteps, predictSteps, waiting, completeSteps, steps, isTop, tops}
