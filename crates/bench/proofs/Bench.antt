@@ -2,15 +2,14 @@
 -- Assumes nothing.
 use mathlib.Core.Path.{_≡_, refl, sym, _∙_, ap₂}
 use mathlib.Core.Logic.{_↔_, _≢_, _⊎_, inl, inr}
-use mathlib.Core.Bool.{Bool, true, false, not, _&&_, cond, and-eq-true-iff, false≢true}
+use mathlib.Core.Bool.{Bool, true, false, _&&_, cond, and-eq-true-iff, false≢true}
 use mathlib.Core.List.{List, [], _∷_, List·Memᴰ, List·Memᴰ·not-nil, List·Memᴰ·cases-cons, map, flatMap}
 use Prim.Native.Nat.{ℕ, zero, suc, _≤_}
 use native.Mathlib.Omega.{arith}
 use lib.Dec.{eqb, ltb}
 use lib.ListN.{length}
-use borrow.Author.Tests.{eqb-true, eqb-false, ltb-true, ltb-false, not-false}
+use borrow.Author.Tests.{eqb-true, eqb-false, ltb-true, ltb-false}
 use Rattle.paper.specs.Multiset.{minus, keep, has, without, count, subMultisets}
-use Rattle.paper.specs.Grammar.{IsGrammar, IsRow}
 use Rattle.paper.specs.Derivation.{InLanguage}
 use Rattle.paper.specs.Entry.{barred, mayTake, finished}
 use Rattle.paper.specs.Sheet.{Sheet, IsSheet, mask, word, sum, sumBelow, entries, startSteps, scanSteps, predictSteps, waiting, completeSteps, steps, isTop, tops}
@@ -18,10 +17,9 @@ use Rattle.paper.specs.Price.{rests}
 use Rattle.paper.specs.Image.{allBelow, grammarOf, imageFault, contentsRight, symbolsRight, rulesFault, recordFault, recordRight, ascends, recordBefore}
 use Rattle.paper.specs.Image.{pairFault, pairsOf, closingFault, chained, paired, rulesOf}
 use Rattle.paper.specs.Lines.{lineCount, digits, partsText, lineText, textsBelow}
-use Rattle.paper.specs.Outcome.{refusal, firstOf, imageRefusal, tooLong, strange, rowRefusal, lastBracket}
+use Rattle.paper.specs.Outcome.{rowRefusal, lastBracket}
 use Rattle.paper.specs.Building.{insert, insertAll, close, below, seeds, predicted, completed, consequences, nextList, firstLists, sheetOf}
-use Rattle.paper.proofs.Records.{all-below}
-use Rattle.paper.proofs.Image.{image-grammar}
+use Rattle.paper.proofs.Fitness.{Fit, row-fit}
 use Rattle.paper.proofs.Machine.{mayTakeAll}
 use Rattle.paper.proofs.Standing.{language-tree}
 use Rattle.paper.proofs.Writing.{lines-exist}
@@ -132,34 +130,6 @@ unfolding agrees
 agree same sound unsaid value h = nothing-said value
 agree same sound (said expected) value h = as-said expected value (sound value expected h)
 
--- a row that has no refusal of 10 to 14, 20 and 21
-record Fit (row : Row) : Type 0 where
-  is-grammar : IsGrammar (grammarOf (row .image))
-  short : length (row .tokens) ≤ 64
-  is-row : IsRow (grammarOf (row .image)) (row .tokens)
-
-first-none : (n : ℕ) (numbers : List ℕ) → firstOf (n ∷ numbers) ≡ 0 → (n ≡ 0) × (firstOf numbers ≡ 0)
-first-none zero numbers h = (refl, h)
-first-none (suc n) numbers h = let k : ⊥ = omega arith in absurd k
-
-no-refusal : (n : ℕ) (holds : Bool) → refusal (suc n) holds ≡ 0 → holds ≡ false
-no-refusal n true h = let k : ⊥ = omega arith in absurd k
-no-refusal n false h = refl
-
-row-fit : (row : Row) → rowRefusal (row .image) (row .tokens) ≡ 0 → Fit row
-unfolding rowRefusal
-row-fit row h =
-    let g = grammarOf (row .image) in
-    let image = first-none (imageRefusal (row .image)) (tooLong (length (row .tokens)) ∷ strange g (row .tokens) ∷ []) h in
-    let long = first-none (tooLong (length (row .tokens))) (strange g (row .tokens) ∷ []) (image .1) in
-    let odd = first-none (strange g (row .tokens)) [] (long .1) in
-    let known = not-false (allBelow (g .terminals) (row .tokens)) (no-refusal 20 (not (allBelow (g .terminals) (row .tokens))) (odd .0)) in
-    record {
-      is-grammar = image-grammar (row .image) (image .0);
-      short = ltb-false 64 (length (row .tokens)) (no-refusal 19 (ltb 64 (length (row .tokens))) (long .0));
-      is-row = record { tokens-are = λ k l. record { below = all-below (g .terminals) (row .tokens) known k l } };
-    }
-
 -- the counts of the sheet of the row
 counted : (row : Row) (sheet : Sheet) → IsSheet (grammarOf (row .image)) (row .tokens) sheet → countsRight row sheet ≡ true → Counted row
 unfolding countsRight
@@ -181,7 +151,7 @@ counted row sheet is h =
     }
 
 -- a row of the language has valid lines: some, or where the derivation is said those that show it
-derived : (row : Row) → Fit row → (what : Said Derivation) → row .derivation ≡ what → derivationRight row what ≡ true → InLanguage (grammarOf (row .image)) (row .tokens) → Derived row
+derived : (row : Row) → Fit (row .image) (row .tokens) → (what : Said Derivation) → row .derivation ≡ what → derivationRight row what ≡ true → InLanguage (grammarOf (row .image)) (row .tokens) → Derived row
 unfolding derivationRight derivationOf
 derived row fit unsaid e h l =
     let (written, valid) = lines-exist (fit .is-grammar) (fit .is-row) (language-tree (fit .is-row) .0 l) in
@@ -222,7 +192,7 @@ unfolding rightFor counted
 right-for row zero e h =
     let g = grammarOf (row .image) in
     let sheet = sheetOf g (row .tokens) in
-    let fit = row-fit row e in
+    let fit = row-fit (row .image) (row .tokens) e in
     let is = sheet-exists g (row .tokens) (fit .is-grammar) (fit .short) in
     let number = verdict (row .words) (entries sheet) (tops g (row .tokens) sheet) in
     let lines = derivationRight row (row .derivation) in

@@ -28,3 +28,4 @@ pub mod Image
 pub mod Written
 pub mod Admitted
 pub mod Demands
+pub mod Fitness
