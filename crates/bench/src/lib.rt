@@ -1,1 +1,3 @@
+#![tactic(auto)]
+
 // The rows of the bench.

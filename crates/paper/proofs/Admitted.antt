@@ -9,11 +9,11 @@ use native.Mathlib.Omega.{arith}
 use lib.Dec.{eqb, leb, ltb}
 use lib.ListN.{length, get_or, take, drop, length-append, length-map}
 use lib.Seq.{drop-drop, take-add, take-append_seam, drop-append_seam, take-length}
-use borrow.Author.Tests.{eqb-true, eq-eqb, ne_eqb, le-leb, lt-ltb}
+use borrow.Author.Tests.{eqb-true, eq-eqb, le-leb, lt-ltb}
 use Rattle.paper.specs.Multiset.{StrictlyAscending}
 use Rattle.paper.specs.Grammar.{Rule, rule_count, rule_at, StrictPartialOrder, IsGrammar}
 use Rattle.paper.specs.Image.{byte, offset, extent, body, contents_right, symbols_right, all_below, ascends, record_before, record_size, record_of, rule_of, record_right}
-use Rattle.paper.specs.Image.{Spot, sound, at, record_fault, rules_fault, rules_of, Pair, pairs_of, pair_fault, paired, chained, closing_fault, image_fault, grammar_of, image_terminals, image_symbols, image_pairs}
+use Rattle.paper.specs.Image.{sound, record_fault, rules_fault, rules_of, Pair, pairs_of, pair_fault, paired, chained, closing_fault, image_fault, grammar_of, image_terminals, image_symbols, image_pairs}
 use Rattle.paper.specs.Records.{record_at}
 use Rattle.paper.specs.Written.{AreBytes, rule_bytes, rules_bytes, rules_body, order_body, symbols_body, image_bytes, written, grammar_with, pair_key, RulesAscend, PairsOfSymbols, IsWritten}
 use Rattle.paper.proofs.Records.{spot_on, record_on, RightRule, RightRecords, record_bytes, record_is, record_before_lem, rules_right}

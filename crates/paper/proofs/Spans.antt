@@ -92,7 +92,7 @@ covers_append {ns} {s} {t} c d =
     choose m k under tokens (inr at) = Memᴰ.append_right c.spans (d.all m k at under tokens)
 
 -- slots that join are covered, if each earlier line is
-joins_cover : {g : Grammar} {row ns slots s : List ℕ} {k i j : ℕ} → ((earlier : ℕ) → earlier < k → Covers ns (suc earlier ∷ []) (line_from ns earlier) (line_to ns earlier))
+joins_cover : {g : Grammar} {row ns : List ℕ} {k : ℕ} {slots s : List ℕ} {i j : ℕ} → ((earlier : ℕ) → earlier < k → Covers ns (suc earlier ∷ []) (line_from ns earlier) (line_to ns earlier))
     → Joins g row ns k slots i j s → Covers ns slots i j
 joins_cover {ns = ns} {i = i} covers Joins.end = covers_none ns i
 joins_cover {ns = ns} {i = i} covers (Joins.token h e joins) = covers_append (covers_token ns i) (joins_cover covers joins)
@@ -119,15 +119,15 @@ topped {spans} {i} {j} (Few.spare l) =
     }
 
 -- a number other than 0 that is read from a list stands in it
-get_d_mem : (s : List ℕ) (x m : ℕ) → get_or s x 0 ≡ suc m → Memᴰ (suc m) s
-get_d_mem [] x m e = absurd (let z : ⊥ = omega arith in z)
-get_d_mem (a ∷ s) zero m e = Memᴰ.head (sym e)
-get_d_mem (a ∷ s) (suc x) m e = Memᴰ.tail (get_d_mem s x m e)
+get_or_mem : (s : List ℕ) (x m : ℕ) → get_or s x 0 ≡ suc m → Memᴰ (suc m) s
+get_or_mem [] x m e = absurd (let z : ⊥ = omega arith in z)
+get_or_mem (a ∷ s) zero m e = Memᴰ.head (sym e)
+get_or_mem (a ∷ s) (suc x) m e = Memᴰ.tail (get_or_mem s x m e)
 
 -- a part of a line stands in a slot of it
 uses_slot : {ns : List ℕ} {k m : ℕ} → Uses ns k m → Memᴰ (suc m) (part_slots ns k)
 uses_slot {ns} {k} {m} u =
-    get_d_mem (part_slots ns k) u.slot m
+    get_or_mem (part_slots ns k) u.slot m
     (get_or-take (line_parts ns k) (drop (line_size * k + 4) ns) u.slot 0 u.is_part ∙ (get_or-drop (line_size * k + 4) ns u.slot 0 ∙ u.names))
 
 -- a line is covered if its slots are

@@ -1,4 +1,5 @@
 // The numbers that the paper keeps apart, and the answers of every public call.
+#![tactic(auto)]
 
 // The number of a rule: the paper's h.
 #[derive(Drop)]

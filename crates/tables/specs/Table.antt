@@ -1,8 +1,8 @@
 -- The table of a grammar: what the layers above ask often, put into bytes once per call. 18 bytes for each of 96 rules (left symbol, number of
 -- members, eight members, and for each member the members that bar it), then the first rule of each symbol, then the rank of each symbol.
 -- Assumes nothing.
-use Rattle.std.specs.Prelude.{◌≡◌, Bool, ◌&&◌, ◌||◌, ℕ, suc, ◌+◌, ◌*◌, ◌≤◌, ◌<◌, eqb, ltb, length, get_or}
-use mathlib.Core.List.{List, [], ◌∷◌, Memᴰ}
+use Rattle.std.specs.Prelude.{◌≡◌, ◌&&◌, ◌||◌, ℕ, suc, ◌+◌, ◌*◌, ◌≤◌, ◌<◌, eqb, ltb, length, get_or}
+use mathlib.Core.List.{List, [], ◌∷◌}
 use Rattle.paper.specs.Multiset.{bit}
 use Rattle.paper.specs.Grammar.{Grammar, rule_count, left, members, symbols}
 

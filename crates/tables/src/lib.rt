@@ -1,1 +1,3 @@
+#![tactic(auto)]
+
 // The table of an admitted grammar.
