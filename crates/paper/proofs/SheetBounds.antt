@@ -35,7 +35,7 @@ entries_bound_exact g n =
     let q : n + 2 ≡ suc (suc n) = omega arith in
     rw (p, q, mul_assoc (rests g) (suc n) (suc (suc n))) (exact_division (rests g) 2 (triangle (suc n)) (suc n * suc (suc n)) (omega arith) (triangle_closed (suc n)))
 
--- R·D·(n+1)(n+2)(n+3)/6 is R-as-D times the sum of these sums
+-- R·D·(n+1)(n+2)(n+3)/6 is R·D times the sum of these sums
 complete_bound_exact : (c n : ℕ) → c * (n + 1) * (n + 2) * (n + 3) / 6 ≡ c * pyramid (suc n)
 complete_bound_exact c n =
     let p : n + 1 ≡ suc n = omega arith in
