@@ -1,11 +1,12 @@
 -- Every row of the bench holds: one computed test of the whole table, and one lemma that says what a passed test means.
 -- Assumes nothing.
-use mathlib.Core.Path.{◌≡◌, refl, sym, ◌∙◌, ap₂}
+use mathlib.Core.Path.{◌≡◌, refl, ap₂}
 use mathlib.Core.Logic.{◌↔◌, ◌≢◌, ◌⊎◌, inl, inr}
 use mathlib.Core.Bool.{Bool, true, false, ◌&&◌, cond, and-eq-true_iff, false≢true}
 use mathlib.Core.List.Memᴰ
+use Rattle.std.specs.Prelude.{Option, Some, None}
 use mathlib.Core.List.{List, [], ◌∷◌, Memᴰ, map, flat_map}
-use Prim.Native.Nat.{ℕ, zero, suc, ◌≤◌}
+use Prim.Native.Nat.{ℕ, ◌≤◌}
 use native.Mathlib.Omega.{arith}
 use lib.Dec.{eqb, ltb}
 use lib.ListN.{length}
@@ -18,6 +19,8 @@ use Rattle.paper.specs.Price.{rests}
 use Rattle.paper.specs.Image.{all_below, grammar_of, image_fault, contents_right, symbols_right, rules_fault, record_fault, record_right, ascends, record_before}
 use Rattle.paper.specs.Image.{pair_fault, pairs_of, closing_fault, chained, paired, rules_of}
 use Rattle.paper.specs.Lines.{line_count, digits, parts_text, line_text, texts_below}
+use Rattle.paper.specs.Refusal.{number_of}
+use Rattle.paper.specs.declared.Refusal.{Refusal}
 use Rattle.paper.specs.Outcome.{row_refusal, last_bracket}
 use Rattle.paper.specs.Building.{insert, insert_all, close, below, seeds, predicted, completed, consequences, next_list, first_lists, sheet_of}
 use Rattle.paper.proofs.Fitness.{Fit, row_fit}
@@ -74,14 +77,14 @@ derivation_right row (said expected) = lines_test (grammar_of row.image) row.tok
 verdict : (words entries tops : ℕ) → ℕ
 verdict words entries tops = cond (ltb words entries) 24 (cond (eqb tops 0) 1 0)
 
--- the row is right, if its first refusal is this one (0: none)
-right_for : Row → ℕ → Bool
-right_for row zero =
+-- the row is right, if this is its first refusal
+right_for : Row → Option Refusal → Bool
+right_for row None =
     let sheet = sheet_of (grammar_of row.image) row.tokens in
     counts_right row sheet
     && (derivation_right row row.derivation
     && eqb row.number (verdict row.words (entries sheet) (tops (grammar_of row.image) row.tokens sheet)))
-right_for row (suc number) = eqb row.number (suc number)
+right_for row (Some why) = eqb row.number (number_of why)
 
 right : Row → Bool
 right row = right_for row (row_refusal row.image row.tokens)
@@ -167,7 +170,7 @@ derived row fit (said expected) e h l =
     }
 
 -- by the sheet, a row is overfull, read or unread
-judged : (row : Row) → row_refusal row.image row.tokens ≡ 0 → (c : Counted row)
+judged : (row : Row) → row_refusal row.image row.tokens ≡ None → (c : Counted row)
     → (1 ≤ tops (grammar_of row.image) row.tokens c.sheet) ↔ InLanguage (grammar_of row.image) row.tokens
     → (InLanguage (grammar_of row.image) row.tokens → Derived row)
     → row.number ≡ verdict row.words (entries c.sheet) (tops (grammar_of row.image) row.tokens c.sheet) → Holds row
@@ -188,9 +191,9 @@ judged row free c language lines h = on_words (ltb row.words (entries c.sheet)) 
     on_words true e = overfull free c (ltb-true row.words (entries c.sheet) e) (rw e at h)
     on_words false e = on_tops (eqb n 0) refl (ltb-false row.words (entries c.sheet) e) (rw e at h)
 
-right_for_lem : (row : Row) (n : ℕ) → row_refusal row.image row.tokens ≡ n → right_for row n ≡ true → Holds row
+right_for_lem : (row : Row) (found : Option Refusal) → row_refusal row.image row.tokens ≡ found → right_for row found ≡ true → Holds row
 unfolding right_for counted
-right_for_lem row zero e h =
+right_for_lem row None e h =
     let g = grammar_of row.image in
     let sheet = sheet_of g row.tokens in
     let fit = row_fit row.image row.tokens e in
@@ -200,7 +203,7 @@ right_for_lem row zero e h =
     let (counts, t) = (and-eq-true_iff (counts_right row sheet) (lines && eqb row.number number)).0 h in
     let (shown, numbers) = (and-eq-true_iff lines (eqb row.number number)).0 t in
     judged row e (counted row sheet is counts) (theorem_1 fit.is_grammar fit.is_row is) (derived row fit row.derivation refl shown) (eqb-true row.number number numbers)
-right_for_lem row (suc n) e h = refused (λ z. let k : ⊥ = omega arith in k) (eqb-true row.number (suc n) h ∙ sym e)
+right_for_lem row (Some why) e h = refused why e (eqb-true row.number (number_of why) h)
 
 all_hold : {row : Row} (rows : List Row) → all_right rows ≡ true → Memᴰ row rows → Holds row
 unfolding all_right right

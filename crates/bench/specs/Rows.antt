@@ -1,12 +1,14 @@
 -- The rows of document 01, "Rows on the bench", that are marked p, as one table; and what it is that a row of the table holds.
 -- Assumes nothing.
-use Rattle.std.specs.Prelude.{◌≡◌, ◌≢◌, List, [], ◌∷◌, map, ℕ, ◌≤◌, ◌<◌, length}
+use Rattle.std.specs.Prelude.{◌≡◌, Some, None, Result, Ok, List, [], ◌∷◌, map, ℕ, ◌≤◌, ◌<◌, length}
 use Rattle.paper.specs.Derivation.{InLanguage}
 use Rattle.paper.specs.Sheet.{Sheet, IsSheet, entries, steps, tops}
 use Rattle.paper.specs.Image.{grammar_of, house}
 use Rattle.paper.specs.Written.{image_bytes}
 use Rattle.paper.specs.Lines.{line_count, Valid}
 use Rattle.paper.specs.Outcome.{row_refusal, last_bracket, reading_number}
+use Rattle.paper.specs.Refusal.{number_of}
+use Rattle.paper.specs.declared.Refusal.{Refusal}
 use Rattle.paper.specs.declared.Counts.{Counts}
 use Rattle.paper.specs.declared.Reading.{Reading}
 
@@ -57,12 +59,12 @@ pub record Derived (row : Row) : Type 0 where
 -- The row holds: its number is the one of the case that it is in, and the counts of its sheet are as said.
 pub data Holds (row : Row) : Type 0 where
   -- 10 to 14, 20, 21
-  refused : row_refusal row.image row.tokens ≢ 0 → row.number ≡ row_refusal row.image row.tokens → Holds row
+  refused : (why : Refusal) → row_refusal row.image row.tokens ≡ Some why → row.number ≡ number_of why → Holds row
   -- 24: "more entries than the sheet has words"
-  overfull : row_refusal row.image row.tokens ≡ 0 → (c : Counted row) → row.words < entries c.sheet → row.number ≡ 24 → Holds row
-  read : row_refusal row.image row.tokens ≡ 0 → (c : Counted row) → entries c.sheet ≤ row.words → InLanguage (grammar_of row.image) row.tokens
+  overfull : row_refusal row.image row.tokens ≡ None → (c : Counted row) → row.words < entries c.sheet → row.number ≡ number_of Refusal.FewWords → Holds row
+  read : row_refusal row.image row.tokens ≡ None → (c : Counted row) → entries c.sheet ≤ row.words → InLanguage (grammar_of row.image) row.tokens
       → Derived row → row.number ≡ 0 → Holds row
-  unread : row_refusal row.image row.tokens ≡ 0 → (c : Counted row) → entries c.sheet ≤ row.words
+  unread : row_refusal row.image row.tokens ≡ None → (c : Counted row) → entries c.sheet ≤ row.words
       → (InLanguage (grammar_of row.image) row.tokens → ⊥) → row.number ≡ 1 → Holds row
 
 -- the counts of an answer are as said
@@ -72,10 +74,10 @@ pub record CountsSaid (row : Row) (counts : Counts) : Type 0 where
   pub tops_are : Agrees row.tops counts.tops
 
 -- An answer of a reading is as the row says: its number and, if it has any, its counts.
-pub record Answers (row : Row) (answer : Reading) : Type 0 where
+pub record Answers (row : Row) (answer : Result Reading Refusal) : Type 0 where
   pub number_is : reading_number answer ≡ row.number
-  pub if_read : (counts : Counts) → answer ≡ Reading.Read counts → CountsSaid row counts
-  pub if_unread : (counts : Counts) → answer ≡ Reading.Unread counts → CountsSaid row counts
+  pub if_read : (counts : Counts) → answer ≡ Ok (Reading.Read counts) → CountsSaid row counts
+  pub if_unread : (counts : Counts) → answer ≡ Ok (Reading.Unread counts) → CountsSaid row counts
 
 -- 01, "The program": "It lends 16,384 sheet words"
 abbrev pub lent : ℕ

@@ -3,6 +3,7 @@
 use mathlib.Core.Path.{◌≡◌, refl, sym, ◌∙◌, ap, subst, subst⁻¹}
 use mathlib.Core.Bool.{Bool, true, false, not, ◌&&◌, ◌||◌, and-eq-true_iff, or-true}
 use mathlib.Core.Logic.{◌↔◌}
+use Rattle.std.specs.Prelude.{None}
 use mathlib.Core.List.{List, [], ◌∷◌, ◌++◌, map}
 use Prim.Native.Nat.{ℕ, suc, ◌+◌, ◌*◌, ◌/◌, ◌%◌, ◌≤◌, ◌<◌}
 use native.Mathlib.Omega.{arith}
@@ -13,13 +14,13 @@ use borrow.Author.Tests.{eqb-true, eq-eqb, le-leb, lt-ltb}
 use Rattle.paper.specs.Multiset.{StrictlyAscending}
 use Rattle.paper.specs.Grammar.{Rule, rule_count, rule_at, StrictPartialOrder, IsGrammar}
 use Rattle.paper.specs.Image.{byte, offset, extent, body, contents_right, symbols_right, all_below, ascends, record_before, record_size, record_of, rule_of, record_right}
-use Rattle.paper.specs.Image.{sound, record_fault, rules_fault, rules_of, Pair, pairs_of, pair_fault, paired, chained, closing_fault, image_fault, grammar_of, image_terminals, image_symbols, image_pairs}
+use Rattle.paper.specs.Image.{record_fault, rules_fault, rules_of, Pair, pairs_of, pair_fault, paired, chained, closing_fault, image_fault, grammar_of, image_terminals, image_symbols, image_pairs}
 use Rattle.paper.specs.Records.{record_at}
 use Rattle.paper.specs.Written.{AreBytes, rule_bytes, rules_bytes, rules_body, order_body, symbols_body, image_bytes, written, grammar_with, pair_key, RulesAscend, PairsOfSymbols, IsWritten}
 use Rattle.paper.proofs.Records.{spot_on, record_on, RightRule, RightRecords, record_bytes, record_is, record_before_lem, rules_right}
 use Rattle.paper.proofs.Order.{pair_on, closing_on, pairs_right}
 use Rattle.paper.proofs.Written.{image_written}
-use Rattle.paper.proofs.Image.{Admitted, admitted, admitted_number, symbols_check, RightContents, contents_check, parts_grammar, grammar_of_bodies, image_grammar, image_rule, image_count}
+use Rattle.paper.proofs.Image.{Admitted, admitted, not_refused, symbols_check, RightContents, contents_check, parts_grammar, grammar_of_bodies, image_grammar, image_rule, image_count}
 
 -- The record of a rule, with anything behind it.
 
@@ -157,7 +158,7 @@ record_check terminals symbols rule rest right =
     )
 
 record_sound : (terminals symbols more k : ℕ) (last : List ℕ) (rule : Rule) (rest : List ℕ) → RightRule terminals symbols rule → record_before last (rule_bytes rule) ≡ true
-    → record_fault terminals symbols more (suc k) (rule_bytes rule) rest ≡ sound → record_fault terminals symbols (suc more) k last (rule_bytes rule ++ rest) ≡ sound
+    → record_fault terminals symbols more (suc k) (rule_bytes rule) rest ≡ None → record_fault terminals symbols (suc more) k last (rule_bytes rule ++ rest) ≡ None
 record_sound terminals symbols more k last rule rest right before ih =
     record_on terminals symbols more k last (rule_bytes rule ++ rest) (record_check terminals symbols rule rest right)
     (subst⁻¹ (λ (x : List ℕ). record_before last x ≡ true) (record_front rule rest) before)
@@ -171,7 +172,7 @@ records_sound : (terminals symbols k : ℕ) (last : List ℕ) (rules : List Rule
     → ((h : ℕ) → h < length rules → RightRule terminals symbols (get_or rules h none))
     → (0 < length rules → record_before last (rule_bytes (get_or rules 0 none)) ≡ true)
     → ((h k : ℕ) → h < k → k < length rules → record_before (rule_bytes (get_or rules h none)) (rule_bytes (get_or rules k none)) ≡ true)
-    → record_fault terminals symbols (length rules) k last (rules_bytes rules) ≡ sound
+    → record_fault terminals symbols (length rules) k last (rules_bytes rules) ≡ None
 unfolding rules_bytes record_fault
 records_sound terminals symbols k last [] right first up = refl
 records_sound terminals symbols k last (rule ∷ rules) right first up =
@@ -182,7 +183,7 @@ records_sound terminals symbols k last (rule ∷ rules) right first up =
 rules_sound : (terminals symbols : ℕ) (rules : List Rule) → length rules ≤ 96
     → ((h : ℕ) → h < length rules → RightRule terminals symbols (get_or rules h none))
     → ((h k : ℕ) → h < k → k < length rules → record_before (rule_bytes (get_or rules h none)) (rule_bytes (get_or rules k none)) ≡ true)
-    → rules_fault terminals symbols (rules_body rules) ≡ sound
+    → rules_fault terminals symbols (rules_body rules) ≡ None
 unfolding rules_fault record_before
 rules_sound terminals symbols rules few right up =
     spot_on (leb 1 (length (rules_body rules)) && leb (length rules) 96) 0 (record_fault terminals symbols (length rules) 0 [] (rules_bytes rules))
@@ -203,7 +204,7 @@ paired_there p pairs a b h = rw h (or-true (eqb p.earlier a && eqb p.later b))
 pairs_sound : (symbols k least : ℕ) (pairs : List Pair) → ((a b : ℕ) → paired pairs a b ≡ true → (a < symbols) × (b < symbols))
     → ((i : ℕ) → i < length pairs → least ≤ get_or (map pair_key pairs) i 0)
     → ((i j : ℕ) → i < j → j < length pairs → get_or (map pair_key pairs) i 0 < get_or (map pair_key pairs) j 0)
-    → pair_fault symbols k least (order_body pairs) ≡ sound
+    → pair_fault symbols k least (order_body pairs) ≡ None
 unfolding order_body pair_fault
 pairs_sound symbols k least [] below from up = refl
 pairs_sound symbols k least (p ∷ pairs) below from up =
@@ -236,7 +237,7 @@ module _ (pairs : List Pair) (order : StrictPartialOrder (paired pairs)) where
       let z : ◌≡◌ {A = ℕ} 0 1 = cc in
       let l : ⊥ = omega arith in l
 
-  closing_sound : (k : ℕ) (more : List Pair) → ((c d : ℕ) → paired more c d ≡ true → paired pairs c d ≡ true) → closing_fault pairs k more ≡ sound
+  closing_sound : (k : ℕ) (more : List Pair) → ((c d : ℕ) → paired more c d ≡ true → paired pairs c d ≡ true) → closing_fault pairs k more ≡ None
   unfolding closing_fault
   closing_sound k [] among = refl
   closing_sound k (p ∷ more) among =
@@ -247,7 +248,7 @@ module _ (pairs : List Pair) (order : StrictPartialOrder (paired pairs)) where
 -- The image check admits what is written of a grammar.
 
 bodies_admitted : (b s r p : List ℕ) → contents_right b ≡ true → body b 0 ≡ s → body b 1 ≡ r → body b 2 ≡ p → symbols_right s ≡ true
-    → rules_fault (byte s 0) (byte s 0 + byte s 1) r ≡ sound → pair_fault (byte s 0 + byte s 1) 0 0 p ≡ sound → closing_fault (pairs_of p) 0 (pairs_of p) ≡ sound → Admitted b
+    → rules_fault (byte s 0) (byte s 0 + byte s 1) r ≡ None → pair_fault (byte s 0 + byte s 1) 0 0 p ≡ None → closing_fault (pairs_of p) 0 (pairs_of p) ≡ None → Admitted b
 bodies_admitted b s r p c e f g x y z w =
     record {
       contents = c;
@@ -282,13 +283,13 @@ module _ (terminals nonterminals start : ℕ) (rules : List Rule) (pairs : List 
         below = λ k m. is.members_are h k l m;
       }
 
-  pub written_admitted : (image_fault (written terminals nonterminals start rules pairs)).number ≡ 0
+  pub written_admitted : image_fault (written terminals nonterminals start rules pairs) ≡ None
   unfolding written
   written_admitted =
       let s = symbols_body terminals nonterminals start in
       let r = rules_body rules in
       let p = order_body pairs in
-      admitted_number (image_bytes s r p)
+      not_refused (image_bytes s r p)
       (bodies_admitted (image_bytes s r p) s r p (contents_check (image_bytes s r p) (contents_are s r p)) (body_0 s r p) (body_1 s r p) (body_2 s r p)
       symbols_sound
       (rules_sound terminals (terminals + nonterminals) rules is.few_rules rule_right rules_ascend.ascend)
@@ -311,7 +312,7 @@ image_ascends b a = record { ascend = up }
     up : (h k : ℕ) → h < k → k < rule_count (grammar_of b) → record_before (rule_bytes (rule_at (grammar_of b) h)) (rule_bytes (rule_at (grammar_of b) k)) ≡ true
     up h k l m = (λ i. record_before (bytes_are h (omega arith) i) (bytes_are k m i)) ∙ record_before_lem run h k l (omega (arith, image_count b))
 
-admitted_written : (b : List ℕ) → AreBytes b → (image_fault b).number ≡ 0 → IsWritten b
+admitted_written : (b : List ℕ) → AreBytes b → image_fault b ≡ None → IsWritten b
 unfolding grammar_of
 admitted_written b h n =
     let a = admitted b n in
@@ -330,10 +331,10 @@ admitted_written b h n =
     }
 
 -- The image check admits exactly what is written of a grammar.
-pub image_iff : (b : List ℕ) → AreBytes b → ((image_fault b).number ≡ 0) ↔ IsWritten b
+pub image_iff : (b : List ℕ) → AreBytes b → (image_fault b ≡ None) ↔ IsWritten b
 image_iff b h = (admitted_written b h, back)
   where
-    back : IsWritten b → (image_fault b).number ≡ 0
+    back : IsWritten b → image_fault b ≡ None
     back w =
-        ap {B = ℕ} (λ x. (image_fault x).number) w.bytes_are
+        ap image_fault w.bytes_are
         ∙ written_admitted w.terminals w.nonterminals w.start w.rules w.pairs w.is_grammar w.rules_ascend w.pairs_are w.pairs_ascend

@@ -3,6 +3,7 @@
 use mathlib.Core.Path.{◌≡◌, refl, sym, ◌∙◌, subst⁻¹}
 use mathlib.Core.Bool.{Bool, true, false, and-eq-true_iff}
 use mathlib.Core.List.{List, [], ◌∷◌}
+use Rattle.std.specs.Prelude.{Option, Some, None}
 use Prim.Native.Nat.{ℕ, zero, suc, ◌+◌, ◌*◌, ◌≤◌, ◌<◌}
 use native.Mathlib.Omega.{arith}
 use lib.Dec.{ltb}
@@ -10,10 +11,12 @@ use lib.ListN.{length, drop, length-drop, get_or-eq_default}
 use lib.Seq.{length-take-le, get_or-take, get_or-drop}
 use borrow.Author.Tests.{eqb-true, eq-eqb, le-leb, lt-ltb, leb-true, ltb-true, ltb-false}
 use Rattle.paper.specs.Grammar.{Grammar, rule_count, rule_at, StrictPartialOrder, IsGrammar}
-use Rattle.paper.specs.Image.{byte, two_bytes, kind, offset, extent, body, contents_right, symbols_right, rules_fault, pair_fault, closing_fault, Spot, sound, at}
-use Rattle.paper.specs.Image.{Fault, refuse, wrong_if, image_terminals, image_symbols, image_pairs, image_fault, grammar_of, house, pairs_of, rules_of, rule_of, paired}
+use Rattle.paper.specs.Image.{byte, two_bytes, kind, offset, extent, body, contents_right, symbols_right, rules_fault, pair_fault, closing_fault}
+use Rattle.paper.specs.Image.{refuse, wrong_if, image_terminals, image_symbols, image_pairs, image_fault, grammar_of, house, pairs_of, rules_of, rule_of, paired}
 use Rattle.paper.specs.Image.{record_fault, record_right, ascends, all_below, record_before, chained}
 use Rattle.paper.specs.Records.{record_at}
+use Rattle.paper.specs.declared.Refusal.{Refusal}
+use Rattle.paper.specs.declared.Fault.{Fault}
 use Rattle.paper.specs.Written.{AreBytes}
 use Rattle.paper.proofs.Records.{rules_count, rules_at, RightRule, RightRules, record_is, rules_right, rules_unlike, records_fill, place_below}
 use Rattle.paper.proofs.Order.{written_cases, closed_order, pairs_right, pairs_few}
@@ -22,16 +25,16 @@ use Rattle.paper.proofs.Order.{written_cases, closed_order, pairs_right, pairs_f
 pub record Admitted (b : List ℕ) : Type 0 where
   pub contents : contents_right b ≡ true
   pub symbols : symbols_right (body b 0) ≡ true
-  pub rules : rules_fault (image_terminals b) (image_symbols b) (body b 1) ≡ sound
-  pub pairs : pair_fault (image_symbols b) 0 0 (body b 2) ≡ sound
-  pub closed : closing_fault (image_pairs b) 0 (image_pairs b) ≡ sound
+  pub rules : rules_fault (image_terminals b) (image_symbols b) (body b 1) ≡ None
+  pub pairs : pair_fault (image_symbols b) 0 0 (body b 2) ≡ None
+  pub closed : closing_fault (image_pairs b) 0 (image_pairs b) ≡ None
 
--- a refusal has a number, so where the number is 0 nothing is at fault
-passed : (n : ℕ) (spot : Spot) (next : Fault) → (refuse (suc n) spot next).number ≡ 0 → (spot ≡ sound) × (next.number ≡ 0)
-passed n sound next h = (refl, h)
-passed n (at k) next h = absurd (let z : ⊥ = omega arith in z)
+-- where nothing is refused, nothing is at fault
+passed : (why : Refusal) (spot : Option ℕ) (next : Option Fault) → refuse why spot next ≡ None → (spot ≡ None) × (next ≡ None)
+passed why None next h = (refl, h)
+passed why (Some k) next h = absurd (let z : ⊥ = cc in z)
 
-right_is : (right : Bool) → wrong_if right ≡ sound → right ≡ true
+right_is : (right : Bool) → wrong_if right ≡ None → right ≡ true
 right_is true h = refl
 right_is false h = absurd (let z : ◌≡◌ {A = ℕ} 0 1 = cc in let k : ⊥ = omega arith in k)
 
@@ -126,14 +129,14 @@ contents_check b c =
     )
 
 -- An image is admitted where it passes the five tests ..
-pub admitted : (b : List ℕ) → (image_fault b).number ≡ 0 → Admitted b
+pub admitted : (b : List ℕ) → image_fault b ≡ None → Admitted b
 unfolding image_fault
 admitted b h =
-    let k = passed 9 (wrong_if (contents_right b)) _ h in
-    let l = passed 10 (wrong_if (symbols_right (body b 0))) _ k.1 in
-    let m = passed 11 (rules_fault (image_terminals b) (image_symbols b) (body b 1)) _ l.1 in
-    let n = passed 12 (pair_fault (image_symbols b) 0 0 (body b 2)) _ m.1 in
-    let o = passed 13 (closing_fault (image_pairs b) 0 (image_pairs b)) _ n.1 in
+    let k = passed Refusal.Contents (wrong_if (contents_right b)) _ h in
+    let l = passed Refusal.Symbols (wrong_if (symbols_right (body b 0))) _ k.1 in
+    let m = passed Refusal.Rules (rules_fault (image_terminals b) (image_symbols b) (body b 1)) _ l.1 in
+    let n = passed Refusal.Order (pair_fault (image_symbols b) 0 0 (body b 2)) _ m.1 in
+    let o = passed Refusal.Chain (closing_fault (image_pairs b) 0 (image_pairs b)) _ n.1 in
     record {
       contents = right_is (contents_right b) k.0;
       symbols = right_is (symbols_right (body b 0)) l.0;
@@ -143,34 +146,34 @@ admitted b h =
     }
 
 -- .. and an image that passes them is admitted
-pub admitted_number : (b : List ℕ) → Admitted b → (image_fault b).number ≡ 0
+pub not_refused : (b : List ℕ) → Admitted b → image_fault b ≡ None
 unfolding image_fault
-admitted_number b a = rw (a.contents, a.symbols, a.rules, a.pairs, a.closed)
+not_refused b a = rw (a.contents, a.symbols, a.rules, a.pairs, a.closed)
 
 -- Each refusal holds where its test fails and those before it do not.
 
 module _ (b : List ℕ) where
-  pub refused_contents : contents_right b ≡ false → image_fault b ≡ record { number = 10; place = 0 }
+  pub refused_contents : contents_right b ≡ false → image_fault b ≡ Some (record { why = Refusal.Contents; place = 0 })
   unfolding image_fault
   refused_contents h = rw h
 
   module _ (contents : contents_right b ≡ true) where
-    pub refused_symbols : symbols_right (body b 0) ≡ false → image_fault b ≡ record { number = 11; place = 0 }
+    pub refused_symbols : symbols_right (body b 0) ≡ false → image_fault b ≡ Some (record { why = Refusal.Symbols; place = 0 })
     unfolding image_fault
     refused_symbols h = rw (contents, h)
 
     module _ (symbols : symbols_right (body b 0) ≡ true) where
-      pub refused_rules : (k : ℕ) → rules_fault (image_terminals b) (image_symbols b) (body b 1) ≡ at k → image_fault b ≡ record { number = 12; place = k }
+      pub refused_rules : (k : ℕ) → rules_fault (image_terminals b) (image_symbols b) (body b 1) ≡ Some k → image_fault b ≡ Some (record { why = Refusal.Rules; place = k })
       unfolding image_fault
       refused_rules k h = rw (contents, symbols, h)
 
-      module _ (rules : rules_fault (image_terminals b) (image_symbols b) (body b 1) ≡ sound) where
-        pub refused_pairs : (k : ℕ) → pair_fault (image_symbols b) 0 0 (body b 2) ≡ at k → image_fault b ≡ record { number = 13; place = k }
+      module _ (rules : rules_fault (image_terminals b) (image_symbols b) (body b 1) ≡ None) where
+        pub refused_pairs : (k : ℕ) → pair_fault (image_symbols b) 0 0 (body b 2) ≡ Some k → image_fault b ≡ Some (record { why = Refusal.Order; place = k })
         unfolding image_fault
         refused_pairs k h = rw (contents, symbols, rules, h)
 
-        pub refused_closing : (k : ℕ) → pair_fault (image_symbols b) 0 0 (body b 2) ≡ sound → closing_fault (image_pairs b) 0 (image_pairs b) ≡ at k
-            → image_fault b ≡ record { number = 14; place = k }
+        pub refused_closing : (k : ℕ) → pair_fault (image_symbols b) 0 0 (body b 2) ≡ None → closing_fault (image_pairs b) 0 (image_pairs b) ≡ Some k
+            → image_fault b ≡ Some (record { why = Refusal.Chain; place = k })
         unfolding image_fault
         refused_closing k pairs h = rw (contents, symbols, rules, pairs, h)
 
@@ -218,7 +221,7 @@ unfolding grammar_of parts_grammar
 grammar_of_bodies b s r p e f g = λ i. parts_grammar (e i) (f i) (g i)
 
 -- An admitted image means a grammar.
-pub image_grammar : (b : List ℕ) → (image_fault b).number ≡ 0 → IsGrammar (grammar_of b)
+pub image_grammar : (b : List ℕ) → image_fault b ≡ None → IsGrammar (grammar_of b)
 unfolding grammar_of parts_grammar
 image_grammar b h =
     let a = admitted b h in
@@ -287,7 +290,7 @@ image_length b a =
 -- The house grammar.
 
 -- The house image is admitted.
-pub house_admitted : (image_fault house).number ≡ 0
+pub house_admitted : image_fault house ≡ None
 unfolding image_fault contents_right symbols_right rules_fault record_fault record_right ascends all_below record_before pair_fault pairs_of closing_fault chained
 house_admitted = refl
 

@@ -2,6 +2,7 @@
 -- Assumes nothing.
 use mathlib.Core.Path.{◌≡◌, refl, ◌∙◌}
 use mathlib.Core.Bool.{Bool, true, false, not, ◌&&◌, ◌||◌, and-eq-true_iff}
+use Rattle.std.specs.Prelude.{Some, None}
 use mathlib.Core.List.{List, [], ◌∷◌, map}
 use Prim.Native.Nat.{ℕ, zero, suc, ◌+◌, ◌*◌, ◌≤◌, ◌<◌}
 use native.Mathlib.Omega.{arith}
@@ -10,7 +11,7 @@ use lib.ListN.{length, get_or, length-map}
 use borrow.Author.Tests.{eqb-true, eqb-false, eq-eqb, ne_eqb, leb-true, le-leb, ltb-true, lt-ltb, not-true}
 use Rattle.paper.specs.Multiset.{StrictlyAscending}
 use Rattle.paper.specs.Grammar.{StrictPartialOrder}
-use Rattle.paper.specs.Image.{byte, sound, at, Pair, pairs_of, pair_fault, paired, chained, closing_fault}
+use Rattle.paper.specs.Image.{byte, Pair, pairs_of, pair_fault, paired, chained, closing_fault}
 use Rattle.paper.specs.Written.{pair_key}
 use Rattle.paper.proofs.Records.{goes_on, spot_on, spot_here}
 
@@ -24,7 +25,7 @@ pair_on symbols k least a b s l m h =
     (simp and-eq-true_iff (lt-ltb a symbols l, (lt-ltb b symbols m, le-leb least (a * 256 + b) h)))
 
 pub pair_stop : (symbols k least a b : ℕ) (s : List ℕ) → (ltb a symbols && (ltb b symbols && leb least (a * 256 + b))) ≡ false
-    → pair_fault symbols k least (a ∷ b ∷ s) ≡ at k
+    → pair_fault symbols k least (a ∷ b ∷ s) ≡ Some k
 unfolding pair_fault
 pair_stop symbols k least a b s wrong =
     spot_here (ltb a symbols && (ltb b symbols && leb least (a * 256 + b))) k (pair_fault symbols (suc k) (suc (a * 256 + b)) s) wrong
@@ -37,7 +38,7 @@ closing_on pairs k p more ne h =
     (rw (ne_eqb p.earlier p.later ne, h))
 
 pub closing_stop : (pairs : List Pair) (k : ℕ) (p : Pair) (more : List Pair) → (not (eqb p.earlier p.later) && chained pairs p.earlier p.later pairs) ≡ false
-    → closing_fault pairs k (p ∷ more) ≡ at k
+    → closing_fault pairs k (p ∷ more) ≡ Some k
 unfolding closing_fault
 closing_stop pairs k p more wrong =
     spot_here (not (eqb p.earlier p.later) && chained pairs p.earlier p.later pairs) k (closing_fault pairs (suc k) more) wrong
@@ -59,8 +60,8 @@ record Closed (pairs : List Pair) (a b : ℕ) : Type 0 where
   apart : a ≡ b → ⊥
   chains : chained pairs a b pairs ≡ true
 
-closing_goes_on : (pairs : List Pair) (k : ℕ) (p : Pair) (more : List Pair) → closing_fault pairs k (p ∷ more) ≡ sound
-    → Closed pairs p.earlier p.later × (closing_fault pairs (suc k) more ≡ sound)
+closing_goes_on : (pairs : List Pair) (k : ℕ) (p : Pair) (more : List Pair) → closing_fault pairs k (p ∷ more) ≡ None
+    → Closed pairs p.earlier p.later × (closing_fault pairs (suc k) more ≡ None)
 unfolding closing_fault
 closing_goes_on pairs k p more h =
     let e = goes_on (not (eqb p.earlier p.later) && chained pairs p.earlier p.later pairs) k (closing_fault pairs (suc k) more) h in
@@ -70,7 +71,7 @@ closing_goes_on pairs k p more h =
 closed_at : (pairs : List Pair) (a b c d : ℕ) → c ≡ a → d ≡ b → Closed pairs c d → Closed pairs a b
 closed_at pairs a b c d e f h = rw (← e, ← f) h
 
-closed_each : (pairs : List Pair) (k : ℕ) (more : List Pair) → closing_fault pairs k more ≡ sound → (a b : ℕ) → paired more a b ≡ true → Closed pairs a b
+closed_each : (pairs : List Pair) (k : ℕ) (more : List Pair) → closing_fault pairs k more ≡ None → (a b : ℕ) → paired more a b ≡ true → Closed pairs a b
 unfolding paired
 closed_each pairs k [] h a b w = absurd (let z : ◌≡◌ {A = ℕ} 0 1 = cc in let l : ⊥ = omega arith in l)
 closed_each pairs k (p ∷ more) h a b w =
@@ -90,7 +91,7 @@ closing pairs a b (q ∷ more) h c w = written_cases q more b c w here (closing 
     here e f = rw (eq-eqb q.earlier b e, f) at t.0
 
 -- 14 is not the answer: the pairs are a strict partial order
-pub closed_order : (pairs : List Pair) → closing_fault pairs 0 pairs ≡ sound → StrictPartialOrder (paired pairs)
+pub closed_order : (pairs : List Pair) → closing_fault pairs 0 pairs ≡ None → StrictPartialOrder (paired pairs)
 closed_order pairs h =
     record {
       irreflexive = λ a. go a (paired pairs a a) refl;
@@ -125,8 +126,8 @@ pub record RightPairs (symbols least : ℕ) (s : List ℕ) : Type 0 where
   pub least_is : (k : ℕ) → k < length (pairs_of s) → least ≤ get_or (map pair_key (pairs_of s)) k 0
   pub ascending : StrictlyAscending (map pair_key (pairs_of s))
 
-pair_goes_on : (symbols k least a b : ℕ) (s : List ℕ) → pair_fault symbols k least (a ∷ b ∷ s) ≡ sound
-    → (a < symbols) × (b < symbols) × (least ≤ a * 256 + b) × (pair_fault symbols (suc k) (suc (a * 256 + b)) s ≡ sound)
+pair_goes_on : (symbols k least a b : ℕ) (s : List ℕ) → pair_fault symbols k least (a ∷ b ∷ s) ≡ None
+    → (a < symbols) × (b < symbols) × (least ≤ a * 256 + b) × (pair_fault symbols (suc k) (suc (a * 256 + b)) s ≡ None)
 unfolding pair_fault
 pair_goes_on symbols k least a b s h =
     let e = goes_on (ltb a symbols && (ltb b symbols && leb least (a * 256 + b))) k (pair_fault symbols (suc k) (suc (a * 256 + b)) s) h in
@@ -165,7 +166,7 @@ pairs_step symbols least a b s p q f ih =
     up (suc i) (suc j) l m = ih.ascending.ascend i j (omega arith) (omega arith)
 
 -- 13 is not the answer: the order body is as 01 says
-pub pairs_right : (symbols k least : ℕ) (s : List ℕ) → pair_fault symbols k least s ≡ sound → RightPairs symbols least s
+pub pairs_right : (symbols k least : ℕ) (s : List ℕ) → pair_fault symbols k least s ≡ None → RightPairs symbols least s
 unfolding pair_fault
 pairs_right symbols k least [] h = pairs_none symbols least
 pairs_right symbols k least (a ∷ []) h = absurd (let z : ◌≡◌ {A = ℕ} 0 1 = cc in let l : ⊥ = omega arith in l)
@@ -179,7 +180,7 @@ ranks_ascend : (a b c d : ℕ) → b < 64 → d < 64 → c * 256 + d < a * 256 +
 ranks_ascend a b c d l m h = omega arith
 
 -- behind the pair c, d
-pairs_left : (symbols k c d : ℕ) (s : List ℕ) → symbols ≤ 64 → c < symbols → d < symbols → pair_fault symbols k (suc (c * 256 + d)) s ≡ sound
+pairs_left : (symbols k c d : ℕ) (s : List ℕ) → symbols ≤ 64 → c < symbols → d < symbols → pair_fault symbols k (suc (c * 256 + d)) s ≡ None
     → length (pairs_of s) + (c * 64 + d) < 4096
 unfolding pairs_of pair_fault
 pairs_left symbols k c d [] few l m h = omega arith
@@ -189,7 +190,7 @@ pairs_left symbols k c d (a ∷ b ∷ s) few l m h =
     omega (arith, ranks_ascend a b c d (omega arith) (omega arith) e.2, pairs_left symbols (suc k) a b s few e.0 e.1 e.3)
 
 -- 64 symbols have 4,096 pairs at the most
-pub pairs_few : (symbols k : ℕ) (s : List ℕ) → symbols ≤ 64 → pair_fault symbols k 0 s ≡ sound → length (pairs_of s) ≤ 4096
+pub pairs_few : (symbols k : ℕ) (s : List ℕ) → symbols ≤ 64 → pair_fault symbols k 0 s ≡ None → length (pairs_of s) ≤ 4096
 unfolding pairs_of pair_fault
 pairs_few symbols k [] few h = omega arith
 pairs_few symbols k (a ∷ []) few h = omega arith

@@ -2,6 +2,7 @@
 -- Assumes nothing.
 use mathlib.Core.Path.{◌≡◌, refl, sym, ◌∙◌, ap}
 use mathlib.Core.Bool.{Bool, true, false, ◌&&◌, ◌||◌, and-eq-true_iff}
+use Rattle.std.specs.Prelude.{Option, Some, None}
 use mathlib.Core.List.{List, [], ◌∷◌}
 use mathlib.Core.Logic.{◌⊎◌, inl, inr}
 use Prim.Native.Nat.{ℕ, zero, suc, ◌+◌, ◌-◌, ◌*◌, ◌≤◌, ◌<◌}
@@ -12,21 +13,21 @@ use lib.Seq.{drop-drop, take-add, length-take-le}
 use borrow.Author.Tests.{eqb-true, eqb-false, eq-eqb, leb-true, ltb-true, lt-ltb}
 use Rattle.paper.specs.Multiset.{Ascending}
 use Rattle.paper.specs.Grammar.{Rule}
-use Rattle.paper.specs.Image.{byte, all_below, ascends, record_before, record_size, record_of, rule_of, record_right, Spot, sound, at, record_fault, rules_fault, rules_of}
+use Rattle.paper.specs.Image.{byte, all_below, ascends, record_before, record_size, record_of, rule_of, record_right, record_fault, rules_fault, rules_of}
 use Rattle.paper.specs.Records.{record_at, record_place}
 use Rattle.paper.specs.Written.{rule_bytes}
 
 -- where nothing is at fault, the test holds and the rest is sound
-pub goes_on : (t : Bool) (k : ℕ) (next : Spot) → elim t as (λ x. Spot) [ true ↦ next | false ↦ at k ] ≡ sound → (t ≡ true) × (next ≡ sound)
+pub goes_on : (t : Bool) (k : ℕ) (next : Option ℕ) → elim t as (λ x. Option ℕ) [ true ↦ next | false ↦ Some k ] ≡ None → (t ≡ true) × (next ≡ None)
 goes_on true k next h = (refl, h)
 goes_on false k next h = absurd (let z : ◌≡◌ {A = ℕ} 0 1 = cc in let l : ⊥ = omega arith in l)
 
 -- where the test holds the rest decides, and else the fault is here
-pub spot_on : (t : Bool) (k : ℕ) (next : Spot) → t ≡ true → elim t as (λ x. Spot) [ true ↦ next | false ↦ at k ] ≡ next
+pub spot_on : (t : Bool) (k : ℕ) (next : Option ℕ) → t ≡ true → elim t as (λ x. Option ℕ) [ true ↦ next | false ↦ Some k ] ≡ next
 spot_on true k next e = refl
 spot_on false k next e = absurd (let z : ◌≡◌ {A = ℕ} 0 1 = cc in let l : ⊥ = omega arith in l)
 
-pub spot_here : (t : Bool) (k : ℕ) (next : Spot) → t ≡ false → elim t as (λ x. Spot) [ true ↦ next | false ↦ at k ] ≡ at k
+pub spot_here : (t : Bool) (k : ℕ) (next : Option ℕ) → t ≡ false → elim t as (λ x. Option ℕ) [ true ↦ next | false ↦ Some k ] ≡ Some k
 spot_here true k next e = absurd (let z : ◌≡◌ {A = ℕ} 0 1 = cc in let l : ⊥ = omega arith in l)
 spot_here false k next e = refl
 
@@ -40,7 +41,7 @@ record_on terminals symbols more k last r right before =
     ((and-eq-true_iff (record_right terminals symbols r) (record_before last (record_of r))).1 (right, before))
 
 pub record_stop : (terminals symbols more k : ℕ) (last r : List ℕ) → (record_right terminals symbols r && record_before last (record_of r)) ≡ false
-    → record_fault terminals symbols (suc more) k last r ≡ at k
+    → record_fault terminals symbols (suc more) k last r ≡ Some k
 unfolding record_fault
 record_stop terminals symbols more k last r wrong =
     spot_here (record_right terminals symbols r && record_before last (record_of r)) k (record_fault terminals symbols more (suc k) (record_of r) (drop (record_size r) r)) wrong
@@ -200,7 +201,7 @@ pub record RightRecords (terminals symbols more : ℕ) (last r : List ℕ) : Typ
   pub next : (h : ℕ) → suc h < more → record_before (record_of (record_at h r)) (record_of (record_at (suc h) r)) ≡ true
   pub filled : length (record_at more r) ≡ 0
 
-records_end : (terminals symbols : ℕ) (last r : List ℕ) (k : ℕ) → record_fault terminals symbols 0 k last r ≡ sound → RightRecords terminals symbols 0 last r
+records_end : (terminals symbols : ℕ) (last r : List ℕ) (k : ℕ) → record_fault terminals symbols 0 k last r ≡ None → RightRecords terminals symbols 0 last r
 unfolding record_fault record_at
 records_end terminals symbols last r k h =
     record {
@@ -212,7 +213,7 @@ records_end terminals symbols last r k h =
   where
     go : (t : Bool) → eqb (length r) 0 ≡ t → length r ≡ 0
     go true e = eqb-true (length r) 0 e
-    go false e = absurd (let y : at k ≡ sound = rw e at h in let z : ◌≡◌ {A = ℕ} 0 1 = cc in let l : ⊥ = omega arith in l)
+    go false e = absurd (let y : Some k ≡ None = rw e at h in let z : ◌≡◌ {A = ℕ} 0 1 = cc in let l : ⊥ = omega arith in l)
 
 records_step : (terminals symbols more : ℕ) (last r : List ℕ) → record_right terminals symbols r ≡ true → record_before last (record_of r) ≡ true
     → RightRecords terminals symbols more (record_of r) (drop (record_size r) r) → RightRecords terminals symbols (suc more) last r
@@ -239,13 +240,13 @@ records_tail terminals symbols more last r run =
       filled = run.filled;
     }
 
-record_goes_on : (terminals symbols more k : ℕ) (last r : List ℕ) → record_fault terminals symbols (suc more) k last r ≡ sound
-    → ((record_right terminals symbols r && record_before last (record_of r)) ≡ true) × (record_fault terminals symbols more (suc k) (record_of r) (drop (record_size r) r) ≡ sound)
+record_goes_on : (terminals symbols more k : ℕ) (last r : List ℕ) → record_fault terminals symbols (suc more) k last r ≡ None
+    → ((record_right terminals symbols r && record_before last (record_of r)) ≡ true) × (record_fault terminals symbols more (suc k) (record_of r) (drop (record_size r) r) ≡ None)
 unfolding record_fault
 record_goes_on terminals symbols more k last r h =
     goes_on (record_right terminals symbols r && record_before last (record_of r)) k (record_fault terminals symbols more (suc k) (record_of r) (drop (record_size r) r)) h
 
-pub records_right : (terminals symbols more k : ℕ) (last r : List ℕ) → record_fault terminals symbols more k last r ≡ sound
+pub records_right : (terminals symbols more k : ℕ) (last r : List ℕ) → record_fault terminals symbols more k last r ≡ None
     → RightRecords terminals symbols more last r
 records_right terminals symbols zero k last r h = records_end terminals symbols last r k h
 records_right terminals symbols (suc more) k last r h =
@@ -259,7 +260,7 @@ pub record RightRules (terminals symbols : ℕ) (r : List ℕ) : Type 0 where
   pub few : byte r 0 ≤ 96
   pub records : RightRecords terminals symbols (byte r 0) [] (drop 1 r)
 
-pub rules_right : (terminals symbols : ℕ) (r : List ℕ) → rules_fault terminals symbols r ≡ sound → RightRules terminals symbols r
+pub rules_right : (terminals symbols : ℕ) (r : List ℕ) → rules_fault terminals symbols r ≡ None → RightRules terminals symbols r
 unfolding rules_fault
 rules_right terminals symbols r h =
     let e = goes_on (leb 1 (length r) && leb (byte r 0) 96) 0 (record_fault terminals symbols (byte r 0) 0 [] (drop 1 r)) h in

@@ -1,6 +1,7 @@
 -- An admitted image is the written form of its own parts, byte for byte.
 -- Assumes nothing.
 use mathlib.Core.Path.{◌≡◌, refl, sym, ◌∙◌, ap}
+use Rattle.std.specs.Prelude.{None}
 use mathlib.Core.List.{List, [], ◌∷◌, ◌++◌}
 use Prim.Native.Nat.{ℕ, zero, suc, ◌+◌, ◌*◌, ◌/◌, ◌%◌, ◌≤◌, ◌<◌}
 use native.Mathlib.Omega.{arith}
@@ -111,7 +112,7 @@ parts_written b first second third x y z e g h k f s t u v w =
     k ∙ ((λ i. contents_bytes (sym e i) (sym g i) (sym h i) ++ (first ++ (second ++ third))) ∙ (λ i. image_bytes (u i) (v i) (w i)))
 
 -- An admitted image is what is written of its own parts.
-pub image_written : (b : List ℕ) → AreBytes b → (image_fault b).number ≡ 0
+pub image_written : (b : List ℕ) → AreBytes b → image_fault b ≡ None
     → b ≡ written (grammar_of b).terminals (grammar_of b).nonterminals (grammar_of b).start (grammar_of b).rules (image_pairs b)
 unfolding grammar_of written
 image_written b h n =

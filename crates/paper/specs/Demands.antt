@@ -1,6 +1,6 @@
 -- What is proved of the definitions, as statements, in the order of document 01. Each has its proof in proofs/Demands.antt.
 -- Assumes nothing.
-use Rattle.std.specs.Prelude.{◌≡◌, ◌↔◌, ℕ, ◌≤◌, ◌<◌, length, get_or}
+use Rattle.std.specs.Prelude.{Option, Result, ◌≡◌, ◌↔◌, ℕ, ◌≤◌, ◌<◌, length, get_or}
 use mathlib.Core.List.{List, [], Memᴰ}
 use Rattle.std.specs.Int.Count.{ones}
 use Rattle.paper.specs.Multiset.{count, Arrangement, sub_multisets}
@@ -12,9 +12,8 @@ use Rattle.paper.specs.Price.{entries_bound, steps_bound, lines_bound}
 use Rattle.paper.specs.Building.{sheet_of}
 use Rattle.paper.specs.Lines.{line_count, Valid, Judged}
 use Rattle.paper.specs.Outcome.{Buffers, reading_number, reading_counts, ReadingOutcome, CheckingOutcome, BracketingOutcome, ViewOutcome}
+use Rattle.paper.specs.declared.Refusal.{Refusal}
 use Rattle.paper.specs.declared.Reading.{Reading}
-use Rattle.paper.specs.declared.Checking.{Checking}
-use Rattle.paper.specs.declared.Bracketing.{Bracketing}
 
 -- ---- the work sheet
 
@@ -84,23 +83,23 @@ LinesBound = (g : Grammar) (row lines : List ℕ) → IsGrammar g → Valid g ro
 
 -- The checker's judgement of lines is one.
 abbrev pub JudgedUnique : Type 0
-JudgedUnique = (g : Grammar) (row lines : List ℕ) (x y : Checking) → Judged g row lines x → Judged g row lines y → x ≡ y
+JudgedUnique = (g : Grammar) (row lines : List ℕ) (x y : Option ℕ) → Judged g row lines x → Judged g row lines y → x ≡ y
 
 -- The checker answers one thing.
 abbrev pub CheckingUnique : Type 0
-CheckingUnique = (image row lines : List ℕ) (x y : Checking) → CheckingOutcome image row lines x → CheckingOutcome image row lines y → x ≡ y
+CheckingUnique = (image row lines : List ℕ) (x y : Result (Option ℕ) Refusal) → CheckingOutcome image row lines x → CheckingOutcome image row lines y → x ≡ y
 
 -- The bracket writer answers one thing, and leaves one thing in its buffer.
 abbrev pub BracketingUnique : Type 0
-BracketingUnique = (image row lines entry : List ℕ) (x y : Bracketing) (s t : List ℕ) → BracketingOutcome image row lines entry x s → BracketingOutcome image row lines entry y t
+BracketingUnique = (image row lines entry : List ℕ) (x y : Result ℕ Refusal) (s t : List ℕ) → BracketingOutcome image row lines entry x s → BracketingOutcome image row lines entry y t
     → (x ≡ y) × (s ≡ t)
 
--- The view of line k is one, and so is the number that its companion gives.
+-- The view of line k is one, and so is the refusal whose number its companion gives.
 abbrev pub ViewUnique : Type 0
-ViewUnique = (image row lines : List ℕ) (k x y : ℕ) (s t : List ℕ) → ViewOutcome image row lines k x s → ViewOutcome image row lines k y t → (x ≡ y) × (s ≡ t)
+ViewUnique = (image row lines : List ℕ) (k : ℕ) (x y : Option Refusal) (s t : List ℕ) → ViewOutcome image row lines k x s → ViewOutcome image row lines k y t → (x ≡ y) × (s ≡ t)
 
 -- What two outcomes of one reading have in common. For a row that is read, only the validity of the lines is fixed: neither they nor their count need be equal.
-pub record SameReading (x y : Reading) (s t : Buffers) : Type 0 where
+pub record SameReading (x y : Result Reading Refusal) (s t : Buffers) : Type 0 where
   pub number : reading_number x ≡ reading_number y
   pub entries : (reading_counts x).entries ≡ (reading_counts y).entries
   pub steps : (reading_counts x).steps ≡ (reading_counts y).steps
@@ -113,5 +112,5 @@ pub record SameReading (x y : Reading) (s t : Buffers) : Type 0 where
 
 -- Reading answers one thing and leaves one thing in its buffers, the lines of a row that is read apart.
 abbrev pub ReadingUnique : Type 0
-ReadingUnique = (image row : List ℕ) (entry : Buffers) (x y : Reading) (s t : Buffers) → ReadingOutcome image row entry x s → ReadingOutcome image row entry y t
+ReadingUnique = (image row : List ℕ) (entry : Buffers) (x y : Result Reading Refusal) (s t : Buffers) → ReadingOutcome image row entry x s → ReadingOutcome image row entry y t
     → SameReading x y s t

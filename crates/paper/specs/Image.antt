@@ -1,7 +1,9 @@
 -- The grammar image: document 01, "The grammar image", and refusals 10 to 14 of its table, each with the place of the first fault.
 -- Assumes nothing.
-use Rattle.std.specs.Prelude.{Bool, true, false, not, ◌&&◌, ◌||◌, cond, List, [], ◌∷◌, ℕ, zero, suc, ◌+◌, ◌*◌, eqb, leb, ltb, length, get_or, take, drop}
+use Rattle.std.specs.Prelude.{Option, Some, None, Bool, true, false, not, ◌&&◌, ◌||◌, cond, List, [], ◌∷◌, ℕ, zero, suc, ◌+◌, ◌*◌, eqb, leb, ltb, length, get_or, take, drop}
 use Rattle.paper.specs.Grammar.{Rule, Grammar}
+use Rattle.paper.specs.declared.Refusal.{Refusal}
+use Rattle.paper.specs.declared.Fault.{Fault}
 
 -- every test of the list holds
 abbrev pub every : List Bool → Bool
@@ -99,22 +101,17 @@ record_right terminals symbols r =
     ∷ all_below symbols (rule_of r).members
     ∷ [])
 
--- sound, or the number of the first thing at fault
-pub data Spot : Type 0 where
-  sound : Spot
-  at : ℕ → Spot
-
--- the first rule at fault among `more` records, the first of which is rule k and must come after the record `last`; bytes left over give the count of rules
-unfoldable pub record_fault : ℕ → ℕ → ℕ → ℕ → List ℕ → List ℕ → Spot
-record_fault terminals symbols zero k last r = cond (eqb (length r) 0) sound (at k)
+-- The number of the first rule at fault, if one is, among `more` records, the first of which is rule k and must come after the record `last`; bytes left over give the count of rules
+unfoldable pub record_fault : ℕ → ℕ → ℕ → ℕ → List ℕ → List ℕ → Option ℕ
+record_fault terminals symbols zero k last r = cond (eqb (length r) 0) None (Some k)
 record_fault terminals symbols (suc more) k last r =
     elim (record_right terminals symbols r && record_before last (record_of r))
-    [ true ↦ record_fault terminals symbols more (suc k) (record_of r) (drop (record_size r) r) | false ↦ at k ]
+    [ true ↦ record_fault terminals symbols more (suc k) (record_of r) (drop (record_size r) r) | false ↦ Some k ]
 
 -- 01: "Rules: a count, then ..", "Rules ascend strictly", "The body is filled exactly.", "There are 0 to 96 rules"
-unfoldable pub rules_fault : ℕ → ℕ → List ℕ → Spot
+unfoldable pub rules_fault : ℕ → ℕ → List ℕ → Option ℕ
 rules_fault terminals symbols r =
-    elim (leb 1 (length r) && leb (byte r 0) 96) [ true ↦ record_fault terminals symbols (byte r 0) 0 [] (drop 1 r) | false ↦ at 0 ]
+    elim (leb 1 (length r) && leb (byte r 0) 96) [ true ↦ record_fault terminals symbols (byte r 0) 0 [] (drop 1 r) | false ↦ Some 0 ]
 
 -- the rules that so many records mean
 unfoldable pub rules_of : ℕ → List ℕ → List Rule
@@ -133,11 +130,11 @@ pairs_of (a ∷ b ∷ s) = record { earlier = a; later = b } ∷ pairs_of s
 
 -- 01, 13: "odd length, symbol out of range, not ascending": the first pair at fault, the first here being pair k;
 -- as a number of two bytes it is at least `least`, which is one more than the pair before it
-unfoldable pub pair_fault : ℕ → ℕ → ℕ → List ℕ → Spot
-pair_fault symbols k least [] = sound
-pair_fault symbols k least (a ∷ []) = at k
+unfoldable pub pair_fault : ℕ → ℕ → ℕ → List ℕ → Option ℕ
+pair_fault symbols k least [] = None
+pair_fault symbols k least (a ∷ []) = Some k
 pair_fault symbols k least (a ∷ b ∷ s) =
-    elim (ltb a symbols && (ltb b symbols && leb least (a * 256 + b))) [ true ↦ pair_fault symbols (suc k) (suc (a * 256 + b)) s | false ↦ at k ]
+    elim (ltb a symbols && (ltb b symbols && leb least (a * 256 + b))) [ true ↦ pair_fault symbols (suc k) (suc (a * 256 + b)) s | false ↦ Some k ]
 
 -- is it written that a precedes b?
 unfoldable pub paired : List Pair → ℕ → ℕ → Bool
@@ -150,24 +147,19 @@ chained pairs a b [] = true
 chained pairs a b (q ∷ more) = (not (eqb q.earlier b) || paired pairs a q.later) && chained pairs a b more
 
 -- 01, 14: "a symbol before itself, or A<B and B<C without A<C": the first pair that is a self pair or starts a chain whose closing pair is missing
-unfoldable pub closing_fault : List Pair → ℕ → List Pair → Spot
-closing_fault pairs k [] = sound
+unfoldable pub closing_fault : List Pair → ℕ → List Pair → Option ℕ
+closing_fault pairs k [] = None
 closing_fault pairs k (p ∷ more) =
-    elim (not (eqb p.earlier p.later) && chained pairs p.earlier p.later pairs) [ true ↦ closing_fault pairs (suc k) more | false ↦ at k ]
+    elim (not (eqb p.earlier p.later) && chained pairs p.earlier p.later pairs) [ true ↦ closing_fault pairs (suc k) more | false ↦ Some k ]
 
--- a refusal of an image: its number, 0 if there is none, and the number of the first rule or pair at fault
-pub record Fault : Type 0 where
-  pub number : ℕ
-  pub place : ℕ
-
--- the refusal if something is at fault, else what the next test finds
-abbrev pub refuse : ℕ → Spot → Fault → Fault
-refuse number sound next = next
-refuse number (at k) next = record { number = number; place = k }
+-- the refusal, if something is at fault, else what the next test finds
+abbrev pub refuse : Refusal → Option ℕ → Option Fault → Option Fault
+refuse why None next = next
+refuse why (Some k) next = Some (record { why = why; place = k })
 
 -- a test of the whole that has no place of its own
-abbrev pub wrong_if : Bool → Spot
-wrong_if right = cond right sound (at 0)
+abbrev pub wrong_if : Bool → Option ℕ
+wrong_if right = cond right None (Some 0)
 
 -- the numbers of an image
 abbrev pub image_terminals : List ℕ → ℕ
@@ -180,14 +172,14 @@ abbrev pub image_pairs : List ℕ → List Pair
 image_pairs b = pairs_of (body b 2)
 
 -- 01, "What comes back", 10 to 14: the first that holds
-unfoldable pub image_fault : List ℕ → Fault
+unfoldable pub image_fault : List ℕ → Option Fault
 image_fault b =
-    refuse 10 (wrong_if (contents_right b))
-    (refuse 11 (wrong_if (symbols_right (body b 0)))
-    (refuse 12 (rules_fault (image_terminals b) (image_symbols b) (body b 1))
-    (refuse 13 (pair_fault (image_symbols b) 0 0 (body b 2))
-    (refuse 14 (closing_fault (image_pairs b) 0 (image_pairs b))
-    (record { number = 0; place = 0 })))))
+    refuse Refusal.Contents (wrong_if (contents_right b))
+    (refuse Refusal.Symbols (wrong_if (symbols_right (body b 0)))
+    (refuse Refusal.Rules (rules_fault (image_terminals b) (image_symbols b) (body b 1))
+    (refuse Refusal.Order (pair_fault (image_symbols b) 0 0 (body b 2))
+    (refuse Refusal.Chain (closing_fault (image_pairs b) 0 (image_pairs b))
+    None))))
 
 -- the grammar that an admitted image means
 unfoldable pub grammar_of : List ℕ → Grammar

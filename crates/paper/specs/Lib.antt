@@ -6,6 +6,7 @@ pub mod Tree
 pub mod Entry
 pub mod Sheet
 pub mod Price
+pub mod Refusal
 pub mod Image
 pub mod Lines
 pub mod Outcome

@@ -1,11 +1,10 @@
 -- Derivation lines: document 01, "Derivation lines". They are a list of numbers, twelve to a line.
 -- Assumes nothing.
-use Rattle.std.specs.Prelude.{◌≡◌, true, false, List, [], ◌∷◌, ◌++◌, ℕ, zero, suc, ◌+◌, ◌-◌, ◌*◌, ◌/◌, ◌%◌, ◌≤◌, ◌<◌, ltb, length, get_or, take, drop}
+use Rattle.std.specs.Prelude.{◌≡◌, Option, Some, None, true, false, List, [], ◌∷◌, ◌++◌, ℕ, zero, suc, ◌+◌, ◌-◌, ◌*◌, ◌/◌, ◌%◌, ◌≤◌, ◌<◌, ltb, length, get_or, take, drop}
 use Rattle.std.proofs.Math.Seq.{slice}
 use Rattle.paper.specs.Multiset.{Arrangement}
 use Rattle.paper.specs.Grammar.{Grammar, rule_count, left, members}
 use Rattle.paper.specs.Derivation.{Acceptable}
-use Rattle.paper.specs.declared.Checking.{Checking}
 
 -- 01: "A line is 12 numbers of 16 bits: rule, from, to, number of parts m, then eight slots."
 abbrev pub line_size : ℕ
@@ -83,13 +82,13 @@ pub record Valid (g : Grammar) (row ns : List ℕ) : Type 0 where
 
 -- 01: "The checker answers valid, or the first line at fault; a fault of the whole .. is given after all single lines, with the count of lines
 -- as its number. A length not a multiple of 12 is a fault of the whole, looked at first, with that count rounded down."
-pub data Judged (g : Grammar) (row ns : List ℕ) (answer : Checking) : Type 0 where
-  valid : Valid g row ns → answer ≡ Checking.Valid → Judged g row ns answer
-  uneven : (length ns % line_size ≡ 0 → ⊥) → answer ≡ Checking.Fault (line_count ns) → Judged g row ns answer
+pub data Judged (g : Grammar) (row ns : List ℕ) (fault : Option ℕ) : Type 0 where
+  valid : Valid g row ns → fault ≡ None → Judged g row ns fault
+  uneven : (length ns % line_size ≡ 0 → ⊥) → fault ≡ Some (line_count ns) → Judged g row ns fault
   line : (k : ℕ) → length ns % line_size ≡ 0 → k < line_count ns → ((i : ℕ) → i < k → LineRight g row ns i) → (LineRight g row ns k → ⊥)
-      → answer ≡ Checking.Fault k → Judged g row ns answer
+      → fault ≡ Some k → Judged g row ns fault
   whole : length ns % line_size ≡ 0 → ((k : ℕ) → k < line_count ns → LineRight g row ns k) → (WholeRight g row ns → ⊥)
-      → answer ≡ Checking.Fault (line_count ns) → Judged g row ns answer
+      → fault ≡ Some (line_count ns) → Judged g row ns fault
 
 -- a number in decimal digits, in at most so many of them and one more
 unfoldable pub digits : ℕ → ℕ → List ℕ

@@ -1,27 +1,72 @@
-// The numbers that the paper keeps apart, and the answers of every public call.
 #![tactic(auto)]
+// The numbers that the paper keeps apart, and the answers of every public call.
 
-// The number of a rule: the paper's h.
-#[derive(Drop)]
-pub struct RuleNo(pub usize);
+use thiserror::Error;
 
-// The number of a symbol: the paper's A.
-#[derive(Drop)]
-pub struct SymbolNo(pub usize);
+/// The number of a rule: the paper's h.
+#[derive(Clone, Copy, Debug, PartialEq, Eq, PartialOrd, Ord, Hash)]
+pub struct RuleNo(pub u8);
 
-// A place between tokens: the paper's i. Place 0 is before the first token.
-#[derive(Drop)]
-pub struct Place(pub usize);
+/// The number of a symbol: the paper's A.
+#[derive(Clone, Copy, Debug, PartialEq, Eq, PartialOrd, Ord, Hash)]
+pub struct SymbolNo(pub u8);
 
-// What the image check answers.
-#[derive(Drop)]
-pub enum Admission {
-    Admitted,
-    Refused(u8),
+/// A place between tokens: the paper's i. Place 0 is before the first token.
+#[derive(Clone, Copy, Debug, PartialEq, Eq, PartialOrd, Ord, Hash)]
+pub struct Place(pub u8);
+
+/// Why a call is refused, in the order of the tests. Each has the number that programs print and that C gets.
+#[derive(Clone, Copy, Debug, PartialEq, Eq, Hash, Error)]
+pub enum Refusal {
+    #[error("the image is too short, or its contents are wrong")]
+    Contents = 10,
+    #[error("the symbols body is wrong")]
+    Symbols = 11,
+    #[error("the rules body is wrong")]
+    Rules = 12,
+    #[error("the order body has an odd length, a pair out of range or a pair out of order")]
+    Order = 13,
+    #[error("the order has a symbol before itself, or a chain without its closing pair")]
+    Chain = 14,
+    #[error("the row has more than 64 tokens")]
+    LongRow = 20,
+    #[error("a token is no terminal")]
+    StrangeToken = 21,
+    #[error("there are too few starts")]
+    FewStarts = 22,
+    #[error("the line buffer is too short")]
+    FewLines = 23,
+    #[error("the sheet is too short")]
+    FewWords = 24,
+    #[error("the lines are not valid")]
+    InvalidLines = 30,
+    #[error("the bracket is longer than its buffer")]
+    LongBracket = 31,
+    #[error("there is no such line")]
+    NoLine = 32,
 }
 
-// What a reading counts over the finished sheet.
-#[derive(Drop)]
+impl Refusal {
+    ghost use Rattle.std.specs.Prelude.{◌≡◌};
+    ghost use Rattle.paper.specs.Refusal.{number_of};
+
+    /// The number that programs print and that C gets.
+    pub fn number(self) -> u8
+        ensures { result ≡ number_of self }
+    {
+        self as u8
+    }
+}
+
+/// Why an image is refused, and the number of the first rule or pair at fault (0 for a fault of contents or symbols).
+#[derive(Clone, Copy, Debug, PartialEq, Eq)]
+pub struct Fault {
+    pub why: Refusal,
+    pub place: usize,
+}
+
+/// What a reading counts over the finished sheet.
+#[derive(Clone, Copy, Debug, PartialEq, Eq)]
 pub struct Counts {
     pub entries: usize,
     pub steps: u64,
@@ -29,41 +74,18 @@ pub struct Counts {
     pub tops: usize,
 }
 
-// What reading answers.
-#[derive(Drop)]
+/// What reading answers of a row that it does not refuse.
+#[derive(Clone, Copy, Debug, PartialEq, Eq)]
 pub enum Reading {
     Read(Counts),
     Unread(Counts),
-    Refused(u8),
 }
 
-// What the checker of derivation lines answers: valid, or the number of the first line at fault.
-#[derive(Drop)]
-pub enum Checking {
-    Valid,
-    Fault(usize),
-    Refused(u8),
-}
-
-// What the bracket writer answers: the length of the bracket.
-#[derive(Drop)]
-pub enum Bracketing {
-    Written(usize),
-    Refused(u8),
-}
-
-// What a grammar and a row length can cost at the most.
-#[derive(Drop)]
+/// What a grammar and a row length can cost at the most.
+#[derive(Clone, Copy, Debug, PartialEq, Eq)]
 pub struct Bounds {
     pub rests: u64,
     pub entries: u64,
     pub steps: u64,
     pub lines: u64,
-}
-
-// What the call for the price answers.
-#[derive(Drop)]
-pub enum Price {
-    AtMost(Bounds),
-    Refused(u8),
 }
