@@ -23,7 +23,8 @@ use Rattle.paper.specs.Refusal.{number_of}
 use Rattle.paper.specs.declared.Refusal.{Refusal}
 use Rattle.paper.specs.Outcome.{row_refusal, last_bracket}
 use Rattle.paper.specs.Building.{insert, insert_all, close, below, seeds, predicted, completed, consequences, next_list, first_lists, sheet_of}
-use Rattle.paper.proofs.Fitness.{Fit, row_fit}
+use Rattle.paper.specs.Demands.{IsFit}
+use Rattle.paper.proofs.Fitness.{row_fit}
 use Rattle.paper.proofs.Machine.{may_take_all}
 use Rattle.paper.proofs.Standing.{language_tree}
 use Rattle.paper.proofs.Writing.{lines_exist}
@@ -155,7 +156,7 @@ counted row sheet is h =
     }
 
 -- a row of the language has valid lines: some, or where the derivation is said those that show it
-derived : (row : Row) → Fit row.image row.tokens → (what : Said Derivation) → row.derivation ≡ what → derivation_right row what ≡ true → InLanguage (grammar_of row.image) row.tokens → Derived row
+derived : (row : Row) → IsFit row.image row.tokens → (what : Said Derivation) → row.derivation ≡ what → derivation_right row what ≡ true → InLanguage (grammar_of row.image) row.tokens → Derived row
 unfolding derivation_right derivation_of
 derived row fit unsaid e h l =
     let (written, valid) = lines_exist fit.is_grammar fit.is_row ((language_tree fit.is_row).0 l) in

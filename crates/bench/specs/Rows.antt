@@ -6,7 +6,8 @@ use Rattle.paper.specs.Sheet.{Sheet, IsSheet, entries, steps, tops}
 use Rattle.paper.specs.Image.{grammar_of, house}
 use Rattle.paper.specs.Written.{image_bytes}
 use Rattle.paper.specs.Lines.{line_count, Valid}
-use Rattle.paper.specs.Outcome.{row_refusal, last_bracket, reading_number}
+use mathlib.Core.List.{Memᴰ}
+use Rattle.paper.specs.Outcome.{Buffers, refused_before, ReadingOutcome, row_refusal, last_bracket, reading_number}
 use Rattle.paper.specs.Refusal.{number_of}
 use Rattle.paper.specs.declared.Refusal.{Refusal}
 use Rattle.paper.specs.declared.Counts.{Counts}
@@ -168,3 +169,12 @@ table =
     ∷ refusing unclosed [] lent 14
     ∷ refusing strange_member [] lent 12
     ∷ []
+
+-- Every row of the table holds.
+abbrev pub TableHolds : Type 0
+TableHolds = (row : Row) → Memᴰ row table → Holds row
+
+-- Every answer that is permitted to a reading of a row of the table is as the row says, if the sheet has as many words and neither 22 nor 23 holds.
+abbrev pub TableAnswered : Type 0
+TableAnswered = (row : Row) (entry exit : Buffers) (answer : Result Reading Refusal) → Memᴰ row table → length entry.sheet ≡ row.words
+    → refused_before row.image row.tokens entry ≡ row_refusal row.image row.tokens → ReadingOutcome row.image row.tokens entry answer exit → Answers row answer

@@ -2,7 +2,10 @@
 -- Assumes nothing.
 use native.Mathlib.Omega.{arith}
 use Rattle.paper.specs.Grammar.{members}
-use Rattle.paper.specs.Demands.{Theorem7, Theorem1, SheetExists, SheetUnique, WordReadBack, OnesLeft, DistinctSubMultisets, EntriesBound, StepsBound, StepsPrice, LinesExist, LinesSound, LinesBound, JudgedUnique, CheckingUnique, BracketingUnique, ViewUnique, ReadingUnique}
+use Rattle.paper.specs.Demands.{AdmittedIsWritten, AdmittedIsGrammar, RowFits, HouseMeant, LanguageByTrees, Theorem7, Theorem1, SheetExists, SheetUnique, WordReadBack, OnesLeft, DistinctSubMultisets, EntriesBound, StepsBound, StepsPrice, LinesExist, LinesSound, LinesBound, JudgedUnique, CheckingUnique, BracketingUnique, ViewUnique, ReadingUnique}
+use Rattle.paper.proofs.Admitted
+use Rattle.paper.proofs.Image
+use Rattle.paper.proofs.Fitness
 use Rattle.paper.proofs.SubMultisets
 use Rattle.paper.proofs.Words
 use Rattle.paper.proofs.Universe
@@ -14,6 +17,25 @@ use Rattle.paper.proofs.Lines
 use Rattle.paper.proofs.Writing
 use Rattle.paper.proofs.Spans
 use Rattle.paper.proofs.Outcome
+
+-- ---- the image
+
+pub admitted_is_written : AdmittedIsWritten
+admitted_is_written image bytes = Admitted.image_iff image bytes
+
+pub admitted_is_grammar : AdmittedIsGrammar
+admitted_is_grammar image admitted = Image.image_grammar image admitted
+
+pub row_fits : RowFits
+row_fits image row free = Fitness.row_fit image row free
+
+pub house_meant : HouseMeant
+house_meant = (Image.house_admitted, Image.house_means)
+
+-- ---- derivation
+
+pub language_by_trees : LanguageByTrees
+language_by_trees g row is_row = Standing.language_tree is_row
 
 -- ---- the work sheet
 

@@ -4,23 +4,18 @@ use mathlib.Core.Path.{◌≡◌, refl}
 use mathlib.Core.Bool.{Bool, true, false, not}
 use mathlib.Core.List.{List, [], ◌∷◌}
 use Rattle.std.specs.Prelude.{Option, Some, None}
-use Prim.Native.Nat.{ℕ, ◌≤◌}
+use Prim.Native.Nat.{ℕ}
 use lib.Dec.{ltb}
 use lib.ListN.{length}
 use borrow.Author.Tests.{ltb-false, not-false}
-use Rattle.paper.specs.Grammar.{IsGrammar, IsRow}
 use Rattle.std.specs.Option.{option_map}
 use Rattle.paper.specs.Image.{all_below, image_fault, grammar_of}
 use Rattle.paper.specs.declared.Refusal.{Refusal}
 use Rattle.paper.specs.declared.Fault.{Fault}
 use Rattle.paper.specs.Outcome.{if_holds, first_of, image_refusal, too_long, strange, row_refusal}
+use Rattle.paper.specs.Demands.{IsFit}
 use Rattle.paper.proofs.Records.{all_below_lem}
 use Rattle.paper.proofs.Image.{image_grammar}
-
-pub record Fit (image row : List ℕ) : Type 0 where
-  pub is_grammar : IsGrammar (grammar_of image)
-  pub short : length row ≤ 64
-  pub is_row : IsRow (grammar_of image) row
 
 -- where no refusal is the first, there is none
 pub first_none : (why : Option Refusal) (more : List (Option Refusal)) → first_of (why ∷ more) ≡ None → (why ≡ None) × (first_of more ≡ None)
@@ -41,7 +36,7 @@ no_fault image h = go (image_fault image) h
     go (Some fault) h = let k : ⊥ = cc in absurd k
 
 -- What is known of a row that is not refused.
-pub row_fit : (image row : List ℕ) → row_refusal image row ≡ None → Fit image row
+pub row_fit : (image row : List ℕ) → row_refusal image row ≡ None → IsFit image row
 unfolding row_refusal
 row_fit image row h =
     let g = grammar_of image in

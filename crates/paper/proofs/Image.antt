@@ -2,7 +2,7 @@
 -- Assumes nothing.
 use mathlib.Core.Path.{◌≡◌, refl, sym, ◌∙◌, subst⁻¹}
 use mathlib.Core.Bool.{Bool, true, false, and-eq-true_iff}
-use mathlib.Core.List.{List, [], ◌∷◌}
+use mathlib.Core.List.{List, []}
 use Rattle.std.specs.Prelude.{Option, Some, None}
 use Prim.Native.Nat.{ℕ, zero, suc, ◌+◌, ◌*◌, ◌≤◌, ◌<◌}
 use native.Mathlib.Omega.{arith}
@@ -15,6 +15,7 @@ use Rattle.paper.specs.Image.{byte, two_bytes, kind, offset, extent, body, conte
 use Rattle.paper.specs.Image.{refuse, wrong_if, image_terminals, image_symbols, image_pairs, image_fault, grammar_of, house, pairs_of, rules_of, rule_of, paired}
 use Rattle.paper.specs.Image.{record_fault, record_right, ascends, all_below, record_before, chained}
 use Rattle.paper.specs.Records.{record_at}
+use Rattle.paper.specs.Demands.{IsHouse}
 use Rattle.paper.specs.declared.Refusal.{Refusal}
 use Rattle.paper.specs.declared.Fault.{Fault}
 use Rattle.paper.specs.Written.{AreBytes}
@@ -294,17 +295,8 @@ pub house_admitted : image_fault house ≡ None
 unfolding image_fault contents_right symbols_right rules_fault record_fault record_right ascends all_below record_before pair_fault pairs_of closing_fault chained
 house_admitted = refl
 
--- 01: "4 plate = {5,6}, 5 rating = {0,1,2}, 6 serial = {1,3}; 1 precedes 2."
-pub record HouseGrammar (g : Grammar) : Type 0 where
-  pub terminals_are : g.terminals ≡ 4
-  pub nonterminals_are : g.nonterminals ≡ 3
-  pub start_is : g.start ≡ 4
-  pub rules_are : g.rules ≡ record { left = 4; members = 5 ∷ 6 ∷ [] } ∷ record { left = 5; members = 0 ∷ 1 ∷ 2 ∷ [] } ∷ record { left = 6; members = 1 ∷ 3 ∷ [] } ∷ []
-  pub value_before_unit : g.precedes 1 2 ≡ true
-  pub no_other : (a b : ℕ) → g.precedes a b ≡ true → (a ≡ 1) × (b ≡ 2)
-
 -- The house image means it.
-pub house_means : HouseGrammar (grammar_of house)
+pub house_means : IsHouse (grammar_of house)
 unfolding grammar_of rules_of pairs_of paired
 house_means =
     record {

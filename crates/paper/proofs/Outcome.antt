@@ -116,7 +116,7 @@ pub view_unique : {image row lines : List ℕ} {k : ℕ} {refusal refusal' : Opt
 view_unique p q = let e = end_unique (view_end p) (view_end q) in (ap (λ z. z.answer) e, ap (λ z. z.cells) e)
 
 -- equal answers and equal buffers have everything in common
-same_all : {x y : Result Reading Refusal} {s t : Buffers} → x ≡ y → s ≡ t → SameReading x y s t
+same_all : {g : Grammar} {row : List ℕ} {x y : Result Reading Refusal} {s t : Buffers} → x ≡ y → s ≡ t → SameReading g row x y s t
 same_all e p =
     record {
       number = ap reading_number e;
@@ -127,6 +127,7 @@ same_all e p =
       starts = ap (λ z. z.starts) p;
       answer = λ n. e;
       lines = λ n. ap (λ z. z.lines) p;
+      settled = λ o. (e, p);
     }
 
 -- the same in each field, the same
@@ -147,8 +148,10 @@ module _ {image row : List ℕ} {entry exit exit' : Buffers} {counts counts' : C
   same_sheet : b.sheet ≡ c.sheet
   same_sheet = sheet_unique b.is_sheet c.is_sheet
 
-  same_read : {x y : Result Reading Refusal} → x ≡ Ok (Reading.Read counts) → y ≡ Ok (Reading.Read counts') → SameReading x y exit exit'
-  same_read e f =
+  same_read : {x y : Result Reading Refusal} {u v : List ℕ} → Valid (grammar_of image) row u → Valid (grammar_of image) row v
+      → counts.lines ≡ line_count u → counts'.lines ≡ line_count v → exit.lines ≡ padded u (length entry.lines) → exit'.lines ≡ padded v (length entry.lines)
+      → x ≡ Ok (Reading.Read counts) → y ≡ Ok (Reading.Read counts') → SameReading (grammar_of image) row x y exit exit'
+  same_read {u} {v} valid valid' k k' p p' e f =
       let s = same_sheet in
       record {
         number = rw (e, f);
@@ -159,10 +162,15 @@ module _ {image row : List ℕ} {entry exit exit' : Buffers} {counts counts' : C
         starts = cc;
         answer = λ n. absurd (n (rw e));
         lines = λ n. absurd (n (rw e));
+        settled =
+            λ one.
+            let lines : u ≡ v = one.same u v valid valid' in
+            let same : counts ≡ counts' = counts_path (cc) (cc) (cc) (cc) in
+            (cc, buffers_path (cc) (cc) (cc));
       }
 
   same_unread : {x y : Result Reading Refusal} → counts.lines ≡ counts'.lines → exit.lines ≡ exit'.lines → x ≡ Ok (Reading.Unread counts) → y ≡ Ok (Reading.Unread counts')
-      → SameReading x y exit exit'
+      → SameReading (grammar_of image) row x y exit exit'
   same_unread p q e f =
       let s = same_sheet in
       let k : counts ≡ counts' = counts_path (cc) (cc) p (cc) in
@@ -170,7 +178,7 @@ module _ {image row : List ℕ} {entry exit exit' : Buffers} {counts counts' : C
 
 -- reading answers one thing, and leaves one thing in its buffers, the lines of a row that is read apart
 pub reading_unique : {image row : List ℕ} {entry : Buffers} {x y : Result Reading Refusal} {s t : Buffers}
-    → ReadingOutcome image row entry x s → ReadingOutcome image row entry y t → SameReading x y s t
+    → ReadingOutcome image row entry x s → ReadingOutcome image row entry y t → SameReading (grammar_of image) row x y s t
 reading_unique (ReadingOutcome.refused why r e p) (ReadingOutcome.refused why' r' f q) = same_all (cc) (cc)
 reading_unique (ReadingOutcome.refused why r e p) (ReadingOutcome.overfull n sheet is over f q) = refused_not r n
 reading_unique (ReadingOutcome.refused why r e p) (ReadingOutcome.read counts n b l ns v k fits q f) = refused_not r n
@@ -181,7 +189,7 @@ reading_unique (ReadingOutcome.overfull n sheet is over e p) (ReadingOutcome.rea
 reading_unique (ReadingOutcome.overfull n sheet is over e p) (ReadingOutcome.unread counts n' b l k q f) = absurd (fits_not_over b sheet is over)
 reading_unique (ReadingOutcome.read counts n b l ns v k fits p e) (ReadingOutcome.refused why r f q) = refused_not r n
 reading_unique (ReadingOutcome.read counts n b l ns v k fits p e) (ReadingOutcome.overfull n' sheet is over f q) = absurd (fits_not_over b sheet is over)
-reading_unique (ReadingOutcome.read counts n b l ns v k fits p e) (ReadingOutcome.read counts' n' b' l' ns' v' k' fits' q f) = same_read b b' e f
+reading_unique (ReadingOutcome.read counts n b l ns v k fits p e) (ReadingOutcome.read counts' n' b' l' ns' v' k' fits' q f) = same_read b b' v v' k k' p q e f
 reading_unique (ReadingOutcome.read counts n b l ns v k fits p e) (ReadingOutcome.unread counts' n' b' l' k' q f) = absurd (l' l)
 reading_unique (ReadingOutcome.unread counts n b l k p e) (ReadingOutcome.refused why r f q) = refused_not r n
 reading_unique (ReadingOutcome.unread counts n b l k p e) (ReadingOutcome.overfull n' sheet is over f q) = absurd (fits_not_over b sheet is over)

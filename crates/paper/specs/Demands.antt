@@ -1,7 +1,7 @@
 -- What is proved of the definitions, as statements, in the order of document 01. Each has its proof in proofs/Demands.antt.
 -- Assumes nothing.
-use Rattle.std.specs.Prelude.{Option, Result, ◌≡◌, ◌↔◌, ℕ, ◌≤◌, ◌<◌, length, get_or}
-use mathlib.Core.List.{List, [], Memᴰ}
+use Rattle.std.specs.Prelude.{Option, None, Result, ◌≡◌, ◌↔◌, true, ℕ, ◌≤◌, ◌<◌, length, get_or}
+use mathlib.Core.List.{List, [], ◌∷◌, Memᴰ}
 use Rattle.std.specs.Int.Count.{ones}
 use Rattle.paper.specs.Multiset.{count, Arrangement, sub_multisets}
 use Rattle.paper.specs.Grammar.{Grammar, IsGrammar, IsRow, members}
@@ -10,10 +10,51 @@ use Rattle.paper.specs.Entry.{Entry, Stands, Found}
 use Rattle.paper.specs.Sheet.{Sheet, IsSheet, mask, word, entry_of, entries, steps, tops}
 use Rattle.paper.specs.Price.{entries_bound, steps_bound, lines_bound}
 use Rattle.paper.specs.Building.{sheet_of}
+use Rattle.paper.specs.Tree.{Tree}
+use Rattle.paper.specs.Image.{image_fault, grammar_of, house}
+use Rattle.paper.specs.Written.{AreBytes, IsWritten}
 use Rattle.paper.specs.Lines.{line_count, Valid, Judged}
-use Rattle.paper.specs.Outcome.{Buffers, reading_number, reading_counts, ReadingOutcome, CheckingOutcome, BracketingOutcome, ViewOutcome}
+use Rattle.paper.specs.Outcome.{row_refusal, Buffers, reading_number, reading_counts, ReadingOutcome, CheckingOutcome, BracketingOutcome, ViewOutcome}
 use Rattle.paper.specs.declared.Refusal.{Refusal}
 use Rattle.paper.specs.declared.Reading.{Reading}
+
+-- ---- the image
+
+-- An image is admitted exactly if it is what is written of some grammar: this says what refusals 10 to 14 mean without their tests.
+abbrev pub AdmittedIsWritten : Type 0
+AdmittedIsWritten = (image : List ℕ) → AreBytes image → (image_fault image ≡ None) ↔ IsWritten image
+
+-- What an admitted image means is a grammar: the premise of the theorems below holds wherever an image is not refused.
+abbrev pub AdmittedIsGrammar : Type 0
+AdmittedIsGrammar = (image : List ℕ) → image_fault image ≡ None → IsGrammar (grammar_of image)
+
+-- A row that is not refused is a short row of terminals.
+pub record IsFit (image row : List ℕ) : Type 0 where
+  pub is_grammar : IsGrammar (grammar_of image)
+  pub short : length row ≤ 64
+  pub is_row : IsRow (grammar_of image) row
+
+abbrev pub RowFits : Type 0
+RowFits = (image row : List ℕ) → row_refusal image row ≡ None → IsFit image row
+
+-- 01: "4 plate = {5,6}, 5 rating = {0,1,2}, 6 serial = {1,3}; 1 precedes 2."
+pub record IsHouse (g : Grammar) : Type 0 where
+  pub terminals_are : g.terminals ≡ 4
+  pub nonterminals_are : g.nonterminals ≡ 3
+  pub start_is : g.start ≡ 4
+  pub rules_are : g.rules ≡ record { left = 4; members = 5 ∷ 6 ∷ [] } ∷ record { left = 5; members = 0 ∷ 1 ∷ 2 ∷ [] } ∷ record { left = 6; members = 1 ∷ 3 ∷ [] } ∷ []
+  pub value_before_unit : g.precedes 1 2 ≡ true
+  pub no_other : (a b : ℕ) → g.precedes a b ≡ true → (a ≡ 1) × (b ≡ 2)
+
+-- The house image is admitted, and means the house grammar.
+abbrev pub HouseMeant : Type 0
+HouseMeant = (image_fault house ≡ None) × IsHouse (grammar_of house)
+
+-- ---- derivation
+
+-- Rewriting and trees agree: the start symbol derives a row of terminals exactly if there is a tree of it over the whole row.
+abbrev pub LanguageByTrees : Type 0
+LanguageByTrees = (g : Grammar) (row : List ℕ) → IsRow g row → InLanguage g row ↔ Tree g row g.start 0 (length row)
 
 -- ---- the work sheet
 
@@ -98,8 +139,13 @@ BracketingUnique = (image row lines entry : List ℕ) (x y : Result ℕ Refusal)
 abbrev pub ViewUnique : Type 0
 ViewUnique = (image row lines : List ℕ) (k : ℕ) (x y : Option Refusal) (s t : List ℕ) → ViewOutcome image row lines k x s → ViewOutcome image row lines k y t → (x ≡ y) × (s ≡ t)
 
--- What two outcomes of one reading have in common. For a row that is read, only the validity of the lines is fixed: neither they nor their count need be equal.
-pub record SameReading (x y : Result Reading Refusal) (s t : Buffers) : Type 0 where
+-- All valid lines of the row are the same.
+pub record OneWay (g : Grammar) (row : List ℕ) : Type 0 where
+  pub same : (u v : List ℕ) → Valid g row u → Valid g row v → u ≡ v
+
+-- What two outcomes of one reading have in common. For a row that is read, only the validity of the lines is fixed: where it has several valid sets of
+-- lines, neither they nor their count need be equal.
+pub record SameReading (g : Grammar) (row : List ℕ) (x y : Result Reading Refusal) (s t : Buffers) : Type 0 where
   pub number : reading_number x ≡ reading_number y
   pub entries : (reading_counts x).entries ≡ (reading_counts y).entries
   pub steps : (reading_counts x).steps ≡ (reading_counts y).steps
@@ -109,8 +155,10 @@ pub record SameReading (x y : Result Reading Refusal) (s t : Buffers) : Type 0 w
   -- refused or unread: all of the answer, and the lines too
   pub answer : (reading_number x ≡ 0 → ⊥) → x ≡ y
   pub lines : (reading_number x ≡ 0 → ⊥) → s.lines ≡ t.lines
+  -- so they are where there is one valid set of lines
+  pub settled : OneWay g row → (x ≡ y) × (s ≡ t)
 
 -- Reading answers one thing and leaves one thing in its buffers, the lines of a row that is read apart.
 abbrev pub ReadingUnique : Type 0
 ReadingUnique = (image row : List ℕ) (entry : Buffers) (x y : Result Reading Refusal) (s t : Buffers) → ReadingOutcome image row entry x s → ReadingOutcome image row entry y t
-    → SameReading x y s t
+    → SameReading (grammar_of image) row x y s t

@@ -1,6 +1,8 @@
 #![tactic(auto)]
 // The numbers that the paper keeps apart, and the answers of every public call.
 
+pub mod laws;
+
 use thiserror::Error;
 
 /// The number of a rule: the paper's h.
