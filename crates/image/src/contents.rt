@@ -33,6 +33,7 @@ fn body_length(image: &[u8], k: usize) -> usize
 }
 
 /// Whether the contents are right.
+#[tactic(auto, using(std::proofs::lemmas::Bool::Decides::nat_tests), unfolding(paper::specs::Image::contents_right))]
 pub fn are_contents_right(image: &[u8]) -> bool
     ensures { result ≡ contents_right image.now }
 {

@@ -30,15 +30,15 @@ fn are_below(members: &[u8], limit: usize) -> bool
 }
 
 /// Whether one record comes before another, compared byte by byte.
-fn comes_before(record: &[u8], next: &[u8]) -> bool
-    ensures { result ≡ record_before record.now next.now }
+fn comes_before(earlier: &[u8], later: &[u8]) -> bool
+    ensures { result ≡ record_before earlier.now later.now }
 {
-    for (a, b) in record.iter().zip(next) {
+    for (a, b) in earlier.iter().zip(later) {
         if *a != *b {
             return *a < *b;
         }
     }
-    record.len() < next.len()
+    earlier.len() < later.len()
 }
 
 /// Whether a right record stands at the front of these bytes.

@@ -4,6 +4,7 @@ ghost use Rattle.std.specs.Prelude.{◌≡◌};
 ghost use Rattle.paper.specs.Image.{symbols_right};
 
 /// Whether the symbols body is right.
+#[tactic(auto, using(std::proofs::lemmas::Bool::Decides::nat_tests), unfolding(paper::specs::Image::symbols_right))]
 pub fn are_symbols_right(symbols: &[u8]) -> bool
     ensures { result ≡ symbols_right symbols.now }
 {
