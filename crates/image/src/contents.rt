@@ -55,6 +55,7 @@ pub fn are_contents_right(image: &[u8]) -> bool
 }
 
 /// Body k of an image whose contents are right.
+#[tactic(auto, using(paper::proofs::Image::contents_right_lem, paper::proofs::Image::body_inside))]
 pub fn body(image: &[u8], k: usize) -> &[u8]
     requires right { contents_right image.now ≡ true }
     requires one_of_three { k < 3 }

@@ -1,47 +1,10 @@
 // The rules body: a count, then a record for each rule.
 
-ghost use Rattle.std.specs.Prelude.{◌≡◌, ◌+◌, ◌<◌, ◌≤◌, length};
-ghost use Rattle.paper.specs.Image.{byte, ascends, all_below, record_before, record_right, rules_fault};
-
-/// Whether the members ascend, equals allowed.
-fn do_ascend(members: &[u8]) -> bool
-    ensures { result ≡ ascends 0 members.now }
-{
-    let mut least = 0;
-    for a in members {
-        if *a < least {
-            return false;
-        }
-        least = *a;
-    }
-    true
-}
-
-/// Whether each member is below the limit.
-fn are_below(members: &[u8], limit: usize) -> bool
-    ensures { result ≡ all_below limit members.now }
-{
-    for a in members {
-        if usize::from(*a) >= limit {
-            return false;
-        }
-    }
-    true
-}
-
-/// Whether one record comes before another, compared byte by byte.
-fn comes_before(earlier: &[u8], later: &[u8]) -> bool
-    ensures { result ≡ record_before earlier.now later.now }
-{
-    for (a, b) in earlier.iter().zip(later) {
-        if *a != *b {
-            return *a < *b;
-        }
-    }
-    earlier.len() < later.len()
-}
+ghost use Rattle.std.specs.Prelude.{◌≡◌};
+ghost use Rattle.paper.specs.Image.{record_right, rules_fault};
 
 /// Whether a right record stands at the front of these bytes.
+#[tactic(auto, using(std::proofs::lemmas::Bool::Decides::nat_tests), unfolding(paper::specs::Image::record_right))]
 fn is_record_right(records: &[u8], terminals: usize, symbols: usize) -> bool
     ensures { result ≡ record_right terminals symbols records.now }
 {
@@ -54,7 +17,7 @@ fn is_record_right(records: &[u8], terminals: usize, symbols: usize) -> bool
         return false;
     }
     let members = &records[2..2 + size];
-    do_ascend(members) && are_below(members, symbols)
+    members.is_sorted() && members.iter().all(|member| usize::from(*member) < symbols)
 }
 
 /// The number of the first rule at fault, if one is.
@@ -71,12 +34,13 @@ pub fn first_bad_rule(rules: &[u8], terminals: usize, symbols: usize) -> Option<
         if !is_record_right(records, terminals, symbols) {
             return Some(h);
         }
-        let size = 2 + usize::from(records[1]);
-        if !comes_before(last, &records[..size]) {
+        let (record, rest) = records.split_at(2 + usize::from(records[1]));
+        // A slice is less where its first other byte is, or where it ends first.
+        if last >= record {
             return Some(h);
         }
-        last = &records[..size];
-        records = &records[size..];
+        last = record;
+        records = rest;
     }
     if records.is_empty() {
         None
