@@ -21,6 +21,7 @@ fn is_record_right(records: &[u8], terminals: usize, symbols: usize) -> bool
 }
 
 /// The number of the first rule at fault, if one is.
+#[tactic(auto, using(crate::proofs::RuleSteps::rule_steps))]
 pub fn first_bad_rule(rules: &[u8], terminals: usize, symbols: usize) -> Option<usize>
     ensures { result ≡ rules_fault terminals symbols rules.now }
 {
