@@ -1,1 +1,2 @@
 pub mod RuleSteps
+pub mod PairSteps

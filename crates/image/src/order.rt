@@ -5,6 +5,7 @@ ghost use Rattle.paper.specs.Bits.{bit_at};
 ghost use Rattle.paper.specs.Image.{pair_fault, pairs_of, paired, closing_fault};
 
 /// The number of the first pair at fault, if one is: each is of two symbols, and they ascend strictly.
+#[tactic(auto, using(crate::proofs::PairSteps::pair_steps))]
 pub fn first_bad_pair(order: &[u8], symbols: usize) -> Option<usize>
     ensures { result ≡ pair_fault symbols 0 0 order.now }
 {
