@@ -1,2 +1,3 @@
 pub mod RuleSteps
 pub mod PairSteps
+pub mod Rows

@@ -27,20 +27,23 @@ pub fn first_bad_pair(order: &[u8], symbols: usize) -> Option<usize>
 }
 
 /// For each symbol, a bit for each symbol that it must precede.
+#[tactic(auto, using(crate::proofs::Rows::pair_bounds))]
 fn later_symbols(order: &[u8]) -> [u64; 64]
     requires pairs { pair_fault 64 0 0 order.now ≡ None }
     ensures rows { length result ≡ 64 }
     ensures bits { (a b : ℕ) → a < 64 → b < 64 → (bit_at b (slice_index result a) ≡ 1) ↔ (paired (pairs_of order.now) a b ≡ true) }
-    ensures symbols { (a : ℕ) → a < 64 → slice_index result a < 2 ^ 64 }
+    ensures small { (a : ℕ) → a < 64 → slice_index result a < 2 ^ 64 }
 {
     let mut later = [0; 64];
     for k in 0..order.len() / 2 {
-        later[usize::from(order[2 * k])] |= 1 << order[2 * k + 1];
+        let earlier = usize::from(order[2 * k]);
+        later[earlier] |= 1 << order[2 * k + 1];
     }
     later
 }
 
 /// The number of the first pair that is a self pair or starts a chain whose closing pair is missing.
+#[tactic(auto, using(crate::proofs::Rows::pair_bounds))]
 pub fn first_open_chain(order: &[u8]) -> Option<usize>
     requires { pair_fault 64 0 0 order.now ≡ None }
     ensures { result ≡ closing_fault (pairs_of order.now) 0 (pairs_of order.now) }
