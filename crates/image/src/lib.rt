@@ -18,6 +18,7 @@ use crate::symbols::are_symbols_right;
 use paper::{Fault, Refusal};
 
 /// The first fault of an image, and its place.
+#[tactic(auto, using(crate::proofs::Faults::image_faults))]
 pub fn first_fault(image: &[u8]) -> Option<Fault>
     ensures { result ≡ image_fault image.now }
 {
