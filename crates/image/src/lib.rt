@@ -10,6 +10,8 @@ mod contents;
 mod order;
 mod rules;
 mod symbols;
+#[cfg(test)]
+mod tests;
 
 use crate::contents::{are_contents_right, body};
 use crate::order::{first_bad_pair, first_open_chain};
