@@ -1,5 +1,5 @@
 -- What each call of `first_fault` needs of the tests before it, and what their answers come to.
-use Rattle.std.proofs.Common.{◌≡◌, ℕ, Some, None, ◌+◌, ◌≤◌, List, length, true, false}
+use Rattle.std.proofs.Common.{◌≡◌, ℕ, None, ◌+◌, ◌≤◌, List, length, true}
 use Rattle.paper.specs.Image.{byte, body, contents_right, symbols_right, rules_fault, pair_fault, closing_fault, image_fault, image_terminals, image_symbols, image_pairs}
 use Rattle.paper.proofs.Image.{symbols_right_lem, not_refused, refused_contents, refused_symbols, refused_rules, refused_pairs, refused_closing}
 use Rattle.image.proofs.PairSteps.{pair_fault_wider}

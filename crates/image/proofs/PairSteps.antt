@@ -1,6 +1,6 @@
 -- The tests of the order body, from what is left of its bytes.
-use Rattle.std.proofs.Common.{◌≡◌, ℕ, zero, suc, Option, Some, None, ◌≢◌, sym, ◌+◌, ◌*◌, ◌/◌, ◌%◌, ◌<◌, ◌≤◌, Bool, true, false, ◌&&◌, List, [], ◌∷◌, length, get_or, drop, leb, ltb, refl, ◌∙◌, ap, arith, add-one}
-use Rattle.std.proofs.lemmas.Bool.{and_from, and_parts, and_left, and_right, lt-leb, le-ltb, ltb-true, leb-true}
+use Rattle.std.proofs.Common.{◌≡◌, ℕ, suc, Some, None, ◌≢◌, sym, ◌+◌, ◌*◌, ◌/◌, ◌%◌, ◌<◌, ◌≤◌, false, ◌&&◌, List, [], ◌∷◌, length, get_or, drop, leb, ltb, refl, ◌∙◌, ap, arith, add-one}
+use Rattle.std.proofs.lemmas.Bool.{and_parts, and_left, and_right, lt-leb, le-ltb, ltb-true, leb-true}
 use Rattle.std.proofs.lemmas.List.{drop_more, drop_all}
 use Rattle.paper.specs.Image.{pair_fault}
 use Rattle.paper.proofs.Records.{goes_on}

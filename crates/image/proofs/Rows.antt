@@ -1,14 +1,14 @@
 -- The rows of bits of `later_symbols`, against the pairs of the order body.
-use Rattle.std.proofs.Common.{◌≡◌, ℕ, zero, suc, Option, Some, None, ◌≢◌, ◌↔◌, ◌⊎◌, inl, inr, ◌+◌, ◌*◌, ◌/◌, ◌%◌, ◌^◌, ◌<◌, ◌≤◌, max, Bool, true, false, not, ◌&&◌, ◌||◌, List, [], ◌∷◌, length, get_or, set, drop, replicate, eqb, bit_or, w64, refl, sym, ◌∙◌, ap, arith, add-one, length-set, get_or-set_same, get_or-set_other}
-use Rattle.std.proofs.lemmas.Bool.{and_from, and_parts, and_left, and_right, or_left, or_right, eqb-true, eqb-false, eq-eqb, ne_eqb, not_from_true, not_from_false, false_from_ne_true, false≢true}
+use Rattle.std.proofs.Common.{◌≡◌, ℕ, zero, suc, Some, None, ◌≢◌, ◌↔◌, ◌⊎◌, inl, inr, ◌+◌, ◌*◌, ◌/◌, ◌%◌, ◌^◌, ◌<◌, ◌≤◌, max, Bool, true, false, not, ◌&&◌, ◌||◌, List, [], ◌∷◌, length, get_or, set, drop, replicate, eqb, bit_or, w64, refl, sym, ◌∙◌, ap, arith, add-one, length-set, get_or-set_same, get_or-set_other}
+use Rattle.std.proofs.lemmas.Bool.{and_from, and_parts, and_left, and_right, or_left, or_right, eqb-true, eqb-false, eq-eqb, not_from_true, false_from_ne_true, false≢true}
 use Rattle.std.proofs.lemmas.List.{drop_more, drop_all, length-replicate, get_or-replicate}
 use Rattle.std.proofs.lemmas.Nat.{or_lt}
 use Rattle.std.proofs.lemmas.Nat.Bits.{bit_at_set_same, bit_at_set_other}
 use Rattle.std.proofs.Math.Bool.{or_assoc, or-false, or-true}
 use Rattle.paper.specs.Bits.{bit_at}
-use Rattle.paper.specs.Image.{Pair, byte, pairs_of, paired, chained, closing_fault, pair_fault}
+use Rattle.paper.specs.Image.{Pair, pairs_of, paired, chained, closing_fault, pair_fault}
 use Rattle.paper.proofs.Bits.{bit_at_lem, bit_lt, bit_cases, bit_zero, bits_same, bit_or_lem}
-use Rattle.paper.proofs.Order.{RightPairs, pairs_right, pair_at, written_cases, closing_on, closing_stop}
+use Rattle.paper.proofs.Order.{pairs_right, pair_at, written_cases, closing_on, closing_stop}
 
 -- The pairs of a sound order body.
 
@@ -170,9 +170,9 @@ or_within x y l m h = bits_same 64 (bit_or x y) x (or_lt 64 x y l m) l (λ k n. 
 -- Each row has the bits of the pairs: the test of pair k, of its two rows, is the search's next step.
 
 module _ (s rows : List ℕ) (sound : pair_fault 64 0 0 s ≡ None)
-  (small : (a : ℕ) → a < 64 → get_or rows a 0 < 2 ^ 64)
-  (bits : (a b : ℕ) → a < 64 → b < 64 → (bit_at b (get_or rows a 0) ≡ 1) ↔ (paired (pairs_of s) a b ≡ true))
-  (k : ℕ) (l : k < length s / 2) where
+    (small : (a : ℕ) → a < 64 → get_or rows a 0 < 2 ^ 64)
+    (bits : (a b : ℕ) → a < 64 → b < 64 → (bit_at b (get_or rows a 0) ≡ 1) ↔ (paired (pairs_of s) a b ≡ true))
+    (k : ℕ) (l : k < length s / 2) where
   abbrev earlier : ℕ
   earlier = get_or s (2 * k) 0
 

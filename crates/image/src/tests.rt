@@ -8,8 +8,9 @@ use std::process::Abort;
 use std::test::Fail;
 
 const HOUSE: [u8; 36] = [
-    0x01, 0x03, 0x01, 0x00, 0x11, 0x00, 0x03, 0x02, 0x00, 0x14, 0x00, 0x0E, 0x03, 0x00, 0x22, 0x00, 0x02, 0x04, 0x03,
-    0x04, 0x03, 0x04, 0x02, 0x05, 0x06, 0x05, 0x03, 0x00, 0x01, 0x02, 0x06, 0x02, 0x01, 0x03, 0x01, 0x02,
+    0x01, 0x03, 0x01, 0x00, 0x11, 0x00, 0x03, 0x02, 0x00, 0x14, 0x00, 0x0E, 0x03, 0x00, 0x22, 0x00,
+    0x02, 0x04, 0x03, 0x04, 0x03, 0x04, 0x02, 0x05, 0x06, 0x05, 0x03, 0x00, 0x01, 0x02, 0x06, 0x02,
+    0x01, 0x03, 0x01, 0x02,
 ];
 
 // What is answered of the image that has these three bodies.
@@ -45,13 +46,34 @@ fn judges_whole_images(rt: HostRuntime) {
 #[test]
 fn admits_64_symbols(rt: HostRuntime) -> Result<(), Fail> {
     answers(&rt, rt.alloc(), &[32, 32, 32], &[0], &[], Ok(()))?;
-    answers(&rt, rt.alloc(), &[33, 32, 33], &[0], &[], Err(Refusal::Symbols))
+    answers(
+        &rt,
+        rt.alloc(),
+        &[33, 32, 33],
+        &[0],
+        &[],
+        Err(Refusal::Symbols),
+    )
 }
 
 #[test]
 fn admits_8_members(rt: HostRuntime) -> Result<(), Fail> {
-    answers(&rt, rt.alloc(), &[1, 1, 1], &[1, 1, 8, 0, 0, 0, 0, 0, 0, 0, 0], &[], Ok(()))?;
-    answers(&rt, rt.alloc(), &[1, 1, 1], &[1, 1, 9, 0, 0, 0, 0, 0, 0, 0, 0, 0], &[], Err(Refusal::Rules))
+    answers(
+        &rt,
+        rt.alloc(),
+        &[1, 1, 1],
+        &[1, 1, 8, 0, 0, 0, 0, 0, 0, 0, 0],
+        &[],
+        Ok(()),
+    )?;
+    answers(
+        &rt,
+        rt.alloc(),
+        &[1, 1, 1],
+        &[1, 1, 9, 0, 0, 0, 0, 0, 0, 0, 0, 0],
+        &[],
+        Err(Refusal::Rules),
+    )
 }
 
 #[test]
@@ -62,17 +84,52 @@ fn wants_a_count_of_rules(rt: HostRuntime) -> Result<(), Fail> {
 #[test]
 fn wants_pairs_in_order(rt: HostRuntime) -> Result<(), Fail> {
     answers(&rt, rt.alloc(), &[2, 1, 2], &[0], &[0], Err(Refusal::Order))?;
-    answers(&rt, rt.alloc(), &[2, 1, 2], &[0], &[0, 1, 0, 0], Err(Refusal::Order))
+    answers(
+        &rt,
+        rt.alloc(),
+        &[2, 1, 2],
+        &[0],
+        &[0, 1, 0, 0],
+        Err(Refusal::Order),
+    )
 }
 
 #[test]
 fn wants_no_self_pair(rt: HostRuntime) -> Result<(), Fail> {
-    answers(&rt, rt.alloc(), &[2, 1, 2], &[0], &[0, 0], Err(Refusal::Chain))
+    answers(
+        &rt,
+        rt.alloc(),
+        &[2, 1, 2],
+        &[0],
+        &[0, 0],
+        Err(Refusal::Chain),
+    )
 }
 
 #[test]
 fn wants_closed_chains(rt: HostRuntime) -> Result<(), Fail> {
-    answers(&rt, rt.alloc(), &[2, 1, 2], &[0], &[0, 1, 1, 2], Err(Refusal::Chain))?;
-    answers(&rt, rt.alloc(), &[2, 1, 2], &[0], &[0, 1, 0, 2, 1, 2], Ok(()))?;
-    answers(&rt, rt.alloc(), &[2, 1, 2], &[0], &[0, 1, 1, 0], Err(Refusal::Chain))
+    answers(
+        &rt,
+        rt.alloc(),
+        &[2, 1, 2],
+        &[0],
+        &[0, 1, 1, 2],
+        Err(Refusal::Chain),
+    )?;
+    answers(
+        &rt,
+        rt.alloc(),
+        &[2, 1, 2],
+        &[0],
+        &[0, 1, 0, 2, 1, 2],
+        Ok(()),
+    )?;
+    answers(
+        &rt,
+        rt.alloc(),
+        &[2, 1, 2],
+        &[0],
+        &[0, 1, 1, 0],
+        Err(Refusal::Chain),
+    )
 }

@@ -1,6 +1,6 @@
-use Rattle.std.proofs.Common.{subst, ◌<◌, get_or, drop, ◌+◌, ◌*◌, arith}
+use Rattle.std.proofs.Common.{drop, ◌+◌, arith}
 use Rattle.paper.specs.Image.{pairs_of}
-use Rattle.image.proofs.Rows.{pair_of, Marked, marked_none, marked_more, marked_all, next_pair, earlier_below, later_below, no_more}
+use Rattle.image.proofs.Rows.{pair_of, marked_none, marked_more, marked_all, next_pair, earlier_below, later_below, no_more}
 use Rattle.image.proofs.order.later_symbols.Goals as goal
 
 pub loop-k-init : goal.loop-k-init

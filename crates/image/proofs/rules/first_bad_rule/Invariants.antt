@@ -1,4 +1,4 @@
-use Rattle.std.proofs.Common.{◌≡◌, ◌-◌, ◌≤◌}
+use Rattle.std.proofs.Common.{◌≡◌, ◌-◌}
 use Rattle.paper.specs.Image.{rules_fault, record_fault}
 use Rattle.image.proofs.rules.first_bad_rule.Given as goal
 
