@@ -36,7 +36,7 @@ pub fn first_bad_rule(rules: &[u8], terminals: usize, symbols: usize) -> Option<
             return Some(h);
         }
         let (record, rest) = records.split_at(2 + usize::from(records[1]));
-        // A slice is less where its first other byte is, or where it ends first.
+        // Slices compare byte by byte, as rules ascend.
         if last >= record {
             return Some(h);
         }

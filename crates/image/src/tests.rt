@@ -3,7 +3,6 @@
 ghost use Rattle.std.specs.Prelude.{◌+◌, ◌<◌, length};
 
 use super::*;
-use std::alloc::Global;
 use std::process::Abort;
 use std::test::Fail;
 
@@ -14,9 +13,8 @@ const HOUSE: [u8; 36] = [
 ];
 
 // What is answered of the image that has these three bodies.
-fn answers(
-    rt: &impl Abort,
-    alloc: Global,
+fn answers<R: Abort + AllocGlobal>(
+    rt: &R,
     symbols: &[u8],
     rules: &[u8],
     order: &[u8],
@@ -26,7 +24,7 @@ fn answers(
 {
     let rules_start = 17 + symbols.len() as u8;
     let order_start = rules_start + rules.len() as u8;
-    let mut image = Vec::new(alloc);
+    let mut image = Vec::new(rt.alloc());
     image.extend_from_slice(&[1, 3, 1, 0, 17, 0, symbols.len() as u8])?;
     image.extend_from_slice(&[2, 0, rules_start, 0, rules.len() as u8])?;
     image.extend_from_slice(&[3, 0, order_start, 0, order.len() as u8])?;
@@ -45,22 +43,14 @@ fn judges_whole_images(rt: HostRuntime) {
 
 #[test]
 fn admits_64_symbols(rt: HostRuntime) -> Result<(), Fail> {
-    answers(&rt, rt.alloc(), &[32, 32, 32], &[0], &[], Ok(()))?;
-    answers(
-        &rt,
-        rt.alloc(),
-        &[33, 32, 33],
-        &[0],
-        &[],
-        Err(Refusal::Symbols),
-    )
+    answers(&rt, &[32, 32, 32], &[0], &[], Ok(()))?;
+    answers(&rt, &[33, 32, 33], &[0], &[], Err(Refusal::Symbols))
 }
 
 #[test]
 fn admits_8_members(rt: HostRuntime) -> Result<(), Fail> {
     answers(
         &rt,
-        rt.alloc(),
         &[1, 1, 1],
         &[1, 1, 8, 0, 0, 0, 0, 0, 0, 0, 0],
         &[],
@@ -68,7 +58,6 @@ fn admits_8_members(rt: HostRuntime) -> Result<(), Fail> {
     )?;
     answers(
         &rt,
-        rt.alloc(),
         &[1, 1, 1],
         &[1, 1, 9, 0, 0, 0, 0, 0, 0, 0, 0, 0],
         &[],
@@ -78,58 +67,23 @@ fn admits_8_members(rt: HostRuntime) -> Result<(), Fail> {
 
 #[test]
 fn wants_a_count_of_rules(rt: HostRuntime) -> Result<(), Fail> {
-    answers(&rt, rt.alloc(), &[1, 1, 1], &[], &[], Err(Refusal::Rules))
+    answers(&rt, &[1, 1, 1], &[], &[], Err(Refusal::Rules))
 }
 
 #[test]
 fn wants_pairs_in_order(rt: HostRuntime) -> Result<(), Fail> {
-    answers(&rt, rt.alloc(), &[2, 1, 2], &[0], &[0], Err(Refusal::Order))?;
-    answers(
-        &rt,
-        rt.alloc(),
-        &[2, 1, 2],
-        &[0],
-        &[0, 1, 0, 0],
-        Err(Refusal::Order),
-    )
+    answers(&rt, &[2, 1, 2], &[0], &[0], Err(Refusal::Order))?;
+    answers(&rt, &[2, 1, 2], &[0], &[0, 1, 0, 0], Err(Refusal::Order))
 }
 
 #[test]
 fn wants_no_self_pair(rt: HostRuntime) -> Result<(), Fail> {
-    answers(
-        &rt,
-        rt.alloc(),
-        &[2, 1, 2],
-        &[0],
-        &[0, 0],
-        Err(Refusal::Chain),
-    )
+    answers(&rt, &[2, 1, 2], &[0], &[0, 0], Err(Refusal::Chain))
 }
 
 #[test]
 fn wants_closed_chains(rt: HostRuntime) -> Result<(), Fail> {
-    answers(
-        &rt,
-        rt.alloc(),
-        &[2, 1, 2],
-        &[0],
-        &[0, 1, 1, 2],
-        Err(Refusal::Chain),
-    )?;
-    answers(
-        &rt,
-        rt.alloc(),
-        &[2, 1, 2],
-        &[0],
-        &[0, 1, 0, 2, 1, 2],
-        Ok(()),
-    )?;
-    answers(
-        &rt,
-        rt.alloc(),
-        &[2, 1, 2],
-        &[0],
-        &[0, 1, 1, 0],
-        Err(Refusal::Chain),
-    )
+    answers(&rt, &[2, 1, 2], &[0], &[0, 1, 1, 2], Err(Refusal::Chain))?;
+    answers(&rt, &[2, 1, 2], &[0], &[0, 1, 0, 2, 1, 2], Ok(()))?;
+    answers(&rt, &[2, 1, 2], &[0], &[0, 1, 1, 0], Err(Refusal::Chain))
 }
