@@ -1,15 +1,20 @@
--- Trying the members that are left, the lowest first.
+-- Trying members one after the other, the lowest or the highest first.
 -- Assumes nothing.
-use Rattle.std.proofs.Common.{◌≡◌, ◌≢◌, ℕ, zero, suc, ◌+◌, ◌-◌, ◌*◌, ◌%◌, ◌^◌, ◌<◌, ◌≤◌, List, length, get_or, arith, true, false, Bool, sym, ◌∙◌, ap, bit_and}
+use Rattle.std.proofs.Common.{◌≡◌, ◌≢◌, ℕ, zero, suc, ◌+◌, ◌-◌, ◌*◌, ◌/◌, ◌%◌, ◌^◌, ◌<◌, ◌≤◌, ◌⊎◌, inl, inr, ◌↔◌, List, length, get_or, arith, true, false, refl, sym, ◌∙◌, ap, bit_and}
 use Rattle.std.proofs.Math.Nat.{pow-le-pow_right, mod-eq_of_lt}
+use native.Mathlib.Nat.{pow-suc}
+use native.Mathlib.Decide.{ℕ_discrete}
+use lib.Pow.{pow_pos}
+use lib.Count.{count_leading_zeros, count_trailing_zeros}
+use Rattle.std.proofs.lemmas.Nat.{one_shl}
 use Rattle.paper.specs.Bits.{bit_at}
 use Rattle.paper.specs.Grammar.{Grammar}
 use Rattle.paper.specs.Entry.{may_take}
 use Rattle.paper.specs.Sheet.{mask, rest_of}
-use Rattle.tables.specs.Masks.{Proper, Takeable, TakenFrom}
+use Rattle.tables.specs.Masks.{Proper, Takeable, LastFound, TakenFrom}
 use Rattle.tables.specs.Table.{bars_of}
-use Rattle.paper.proofs.Bits.{clear_here, clear_other, clear_lt, bit_cases, bit_place, trailing_set, trailing_lt}
-use Rattle.tables.proofs.Masks.{may, may_not, take_mask, take_proper}
+use Rattle.paper.proofs.Bits.{bit_place, bit_zero, clear_here, clear_other, trailing_lt, trailing_set, leading_lt, leading_set, leading_clear}
+use Rattle.tables.proofs.Masks.{may, may_not, take_mask, taken_exactly, last_once}
 
 -- a byte with a bit for each of at most eight members is no wider
 pub byte_fits : (n : ℕ) → n ≤ 8 → 1 * 2 ^ n % 65536 - 1 ≡ 2 ^ n - 1
@@ -18,30 +23,63 @@ byte_fits n few =
     let lt : 1 * 2 ^ n < 65536 = omega arith in
     ap (λ m. m - 1) (mod-eq_of_lt lt ∙ omega arith)
 
--- Of the members that are left, those that are not untried are not a or may not be taken.
-pub record Untried (g : Grammar) (s : List ℕ) (rest a untried : ℕ) : Type 0 where
-  pub within : (k : ℕ) → bit_at k untried ≡ 1 → bit_at k rest ≡ 1
-  pub below : untried ≤ rest
-  pub tried : (k : ℕ) → Takeable g s rest k → bit_at k untried ≡ 0 → get_or s k 0 ≢ a
+-- ## Members that are still to be tried
+
+-- Of all these members, those no longer untried have been found to be so.
+pub record Untried (all untried : ℕ) (So : ℕ → Type 0) : Type 0 where
+  pub within : (k : ℕ) → bit_at k untried ≡ 1 → bit_at k all ≡ 1
+  pub tried : (k : ℕ) → bit_at k all ≡ 1 → bit_at k untried ≡ 0 → So k
 
 -- at first all are untried
-pub all_untried : (g : Grammar) (s : List ℕ) (rest a : ℕ) → Untried g s rest a rest
-all_untried g s rest a = record { within = λ k e. e; below = omega arith; tried = λ k t e. let z : ⊥ = omega (arith, t.is_left) in absurd z }
+pub all_untried : (all : ℕ) (So : ℕ → Type 0) → Untried all all So
+all_untried all So = record { within = λ k e. e; tried = λ k e f. absurd (omega arith) }
 
-module _ {g : Grammar} {s : List ℕ} {rest a untried : ℕ} (u : Untried g s rest a untried) where
-  -- one more is tried
-  pub one_tried : (k : ℕ) → bit_at k untried ≡ 1 → (Takeable g s rest k → get_or s k 0 ≢ a) → Untried g s rest a (untried - 2 ^ k)
-  one_tried k e not_here = record { within = within; below = omega (arith, u.below); tried = tried }
-    where
-      within : (j : ℕ) → bit_at j (untried - 2 ^ k) ≡ 1 → bit_at j rest ≡ 1
-      within j f = ?
+-- one more is tried
+pub one_tried : {all untried : ℕ} {So Now : ℕ → Type 0} → Untried all untried So → ((j : ℕ) → So j → Now j) → (k : ℕ) → bit_at k untried ≡ 1 → Now k → Untried all (untried - 2 ^ k) Now
+one_tried {all} {untried} {So} {Now} u onward k e here = record { within = λ j. still j (ℕ_discrete j k); tried = λ j. done j (ℕ_discrete j k) }
+  where
+    still : (j : ℕ) → Dec (j ≡ k) → bit_at j (untried - 2 ^ k) ≡ 1 → bit_at j all ≡ 1
+    still j (yes x) f = absurd (let z : ⊥ = omega (arith, ap (λ n. bit_at n (untried - 2 ^ k)) x, clear_here k untried e) in z)
+    still j (no ne) f = u.within j (sym (clear_other k j untried e ne) ∙ f)
 
-      tried : (j : ℕ) → Takeable g s rest j → bit_at j (untried - 2 ^ k) ≡ 0 → get_or s j 0 ≢ a
-      tried j t f = ?
+    done : (j : ℕ) → Dec (j ≡ k) → bit_at j all ≡ 1 → bit_at j (untried - 2 ^ k) ≡ 0 → Now j
+    done j (yes x) f h = rw x here
+    done j (no ne) f h = onward j (u.tried j f (sym (clear_other k j untried e ne) ∙ h))
+
+-- when none is left untried, all are so
+pub none_untried : {all untried : ℕ} {So : ℕ → Type 0} → Untried all untried So → untried ≡ 0 → (k : ℕ) → bit_at k all ≡ 1 → So k
+none_untried u e k f = u.tried k f (ap (bit_at k) e ∙ bit_zero k)
+
+-- Member k is tried next.
+pub record IsNext (all untried k : ℕ) : Type 0 where
+  pub is_in : bit_at k all ≡ 1
+  pub is_untried : bit_at k untried ≡ 1
+  pub shifted : 1 * 2 ^ k % 256 ≡ 2 ^ k
+  pub low : k < 8
+
+-- the lowest
+pub lowest : {all untried : ℕ} {So : ℕ → Type 0} → Untried all untried So → untried < 256 → untried ≢ 0 → IsNext all untried (count_trailing_zeros 8 untried)
+lowest {all} {untried} u fits some =
+    let low : count_trailing_zeros 8 untried < 8 = trailing_lt 8 untried some fits in
+    let set : bit_at (count_trailing_zeros 8 untried) untried ≡ 1 = trailing_set 8 untried some fits in
+    record { is_in = u.within (count_trailing_zeros 8 untried) set; is_untried = set; shifted = one_shl (count_trailing_zeros 8 untried) 8 low; low = low }
+
+-- the highest
+pub highest : {all untried : ℕ} {So : ℕ → Type 0} → Untried all untried So → untried < 256 → untried ≢ 0 → IsNext all untried (7 - count_leading_zeros 8 untried)
+highest {all} {untried} u fits some =
+    let low : 7 - count_leading_zeros 8 untried < 8 = omega arith in
+    let set : bit_at (7 - count_leading_zeros 8 untried) untried ≡ 1 = leading_set 8 untried some fits in
+    record { is_in = u.within (7 - count_leading_zeros 8 untried) set; is_untried = set; shifted = one_shl (7 - count_leading_zeros 8 untried) 8 low; low = low }
+
+-- ## Taking
+
+-- a member that may be taken is not a
+abbrev pub IsNot : Grammar → List ℕ → ℕ → ℕ → ℕ → Type 0
+IsNot g s rest a k = Takeable g s rest k → get_or s k 0 ≢ a
 
 -- when none is untried, a may not be taken
-pub none_untried : {g : Grammar} {s : List ℕ} {rest a untried : ℕ} → Untried g s rest a untried → untried ≡ 0 → may_take g a (rest_of s rest) ≡ false
-none_untried {g} {s} {rest} {a} u e = may_not g s rest a (λ k t. u.tried k t ?)
+pub none_is : {g : Grammar} {s : List ℕ} {rest a untried : ℕ} → Untried rest untried (IsNot g s rest a) → untried ≡ 0 → may_take g a (rest_of s rest) ≡ false
+none_is {g} {s} {rest} {a} u e = may_not g s rest a (λ k t. none_untried u e k t.is_left t)
 
 -- a member that may be taken, and is a
 pub takes : {g : Grammar} {s : List ℕ} {rest a k : ℕ} → Proper s rest → Takeable g s rest k → get_or s k 0 ≡ a → TakenFrom g s a rest (rest - 2 ^ k)

@@ -8,5 +8,5 @@ use Rattle.tables.proofs.Grammar.full.Goals as goal
 pub returns-clause-value : goal.returns-clause-value
 returns-clause-value c = rw (byte_fits c.size.result c.size.ensures.few, c.size.ensures.size) (sym (full_mask (members (grammar_of c.args.self.now) c.args.h.0)))
 
-pub returns-clause-proper : goal.returns-clause-proper
-returns-clause-proper c = rw (byte_fits c.size.result c.size.ensures.few, c.size.ensures.size) (full_proper (members (grammar_of c.args.self.now) c.args.h.0))
+pub returns-clause-byte : goal.returns-clause-byte
+returns-clause-byte c = rw (byte_fits c.size.result c.size.ensures.few, c.size.ensures.size) (full_proper (members (grammar_of c.args.self.now) c.args.h.0))
