@@ -1,11 +1,13 @@
 -- Trying members one after the other, the lowest or the highest first.
 -- Assumes nothing.
-use Rattle.std.proofs.Common.{◌≡◌, ◌≢◌, ℕ, zero, suc, ◌+◌, ◌-◌, ◌*◌, ◌/◌, ◌%◌, ◌^◌, ◌<◌, ◌≤◌, ◌⊎◌, inl, inr, ◌↔◌, List, length, get_or, arith, true, false, refl, sym, ◌∙◌, ap, bit_and}
+use Rattle.std.proofs.Common.{◌≡◌, ◌≢◌, ℕ, zero, suc, ◌+◌, ◌-◌, ◌*◌, ◌/◌, ◌%◌, ◌^◌, ◌<◌, ◌≤◌, ◌⊎◌, inl, inr, ◌↔◌, List, length, get_or, arith, Bool, true, false, refl, sym, ◌∙◌, ap, bit_and}
 use Rattle.std.proofs.Math.Nat.{pow-le-pow_right, mod-eq_of_lt}
 use native.Mathlib.Nat.{pow-suc}
 use native.Mathlib.Decide.{ℕ_discrete}
+use lib.Dec.{eqb}
 use lib.Pow.{pow_pos}
 use lib.Count.{count_leading_zeros, count_trailing_zeros}
+use borrow.Author.Tests.{eqb-true, eq-eqb}
 use Rattle.std.proofs.lemmas.Nat.{one_shl}
 use Rattle.paper.specs.Bits.{bit_at}
 use Rattle.paper.specs.Grammar.{Grammar}
@@ -50,28 +52,41 @@ one_tried {all} {untried} {So} {Now} u onward k e here = record { within = λ j.
 pub none_untried : {all untried : ℕ} {So : ℕ → Type 0} → Untried all untried So → untried ≡ 0 → (k : ℕ) → bit_at k all ≡ 1 → So k
 none_untried u e k f = u.tried k f (ap (bit_at k) e ∙ bit_zero k)
 
--- Member k is tried next.
-pub record IsNext (all untried k : ℕ) : Type 0 where
+-- Member k of s is tried next.
+pub record IsNext (s : List ℕ) (all untried k : ℕ) : Type 0 where
+  pub place : k < length s
   pub is_in : bit_at k all ≡ 1
   pub is_untried : bit_at k untried ≡ 1
   pub shifted : 1 * 2 ^ k % 256 ≡ 2 ^ k
-  pub low : k < 8
 
--- the lowest
-pub lowest : {all untried : ℕ} {So : ℕ → Type 0} → Untried all untried So → untried < 256 → untried ≢ 0 → IsNext all untried (count_trailing_zeros 8 untried)
-lowest {all} {untried} u fits some =
-    let low : count_trailing_zeros 8 untried < 8 = trailing_lt 8 untried some fits in
-    let set : bit_at (count_trailing_zeros 8 untried) untried ≡ 1 = trailing_set 8 untried some fits in
-    record { is_in = u.within (count_trailing_zeros 8 untried) set; is_untried = set; shifted = one_shl (count_trailing_zeros 8 untried) 8 low; low = low }
+module _ {s : List ℕ} {all untried : ℕ} {So : ℕ → Type 0} (below : all < 2 ^ length s) (u : Untried all untried So) (fits : untried < 256) (some : untried ≢ 0) where
+  next : (k : ℕ) → k < 8 → bit_at k untried ≡ 1 → IsNext s all untried k
+  next k low e = record { place = bit_place (length s) k all below (u.within k e); is_in = u.within k e; is_untried = e; shifted = one_shl k 8 low }
 
--- the highest
-pub highest : {all untried : ℕ} {So : ℕ → Type 0} → Untried all untried So → untried < 256 → untried ≢ 0 → IsNext all untried (7 - count_leading_zeros 8 untried)
-highest {all} {untried} u fits some =
-    let low : 7 - count_leading_zeros 8 untried < 8 = omega arith in
-    let set : bit_at (7 - count_leading_zeros 8 untried) untried ≡ 1 = leading_set 8 untried some fits in
-    record { is_in = u.within (7 - count_leading_zeros 8 untried) set; is_untried = set; shifted = one_shl (7 - count_leading_zeros 8 untried) 8 low; low = low }
+  -- the lowest
+  pub lowest : IsNext s all untried (count_trailing_zeros 8 untried)
+  lowest = next (count_trailing_zeros 8 untried) (trailing_lt 8 untried some fits) (trailing_set 8 untried some fits)
+
+  -- the highest
+  pub highest : IsNext s all untried (7 - count_leading_zeros 8 untried)
+  highest = next (7 - count_leading_zeros 8 untried) (omega arith) (leading_set 8 untried some fits)
 
 -- ## Taking
+
+module _ {g : Grammar} {s : List ℕ} {rest k bars : ℕ} (e : bars ≡ bars_of g s k) where
+  pub free : {untried : ℕ} → IsNext s rest untried k → bit_and rest bars ≡ 0 → Takeable g s rest k
+  free n f = record { place = n.place; is_left = n.is_in; unbarred = ap (bit_and rest) (sym e) ∙ f }
+
+  pub not_free : (bit_and rest bars ≡ 0 → ⊥) → Takeable g s rest k → ⊥
+  not_free f t = f (ap (bit_and rest) e ∙ t.unbarred)
+
+-- whether the member b, which is x, is a
+module _ {x b a : ℕ} {same : Bool} (e : b ≡ x) (f : same ≡ eqb b a) where
+  pub is_a : same ≡ true → x ≡ a
+  is_a h = sym e ∙ eqb-true b a (sym f ∙ h)
+
+  pub is_not_a : same ≡ false → x ≢ a
+  is_not_a h g = let y : eqb b a ≡ true = eq-eqb b a (e ∙ g) in cc
 
 -- a member that may be taken is not a
 abbrev pub IsNot : Grammar → List ℕ → ℕ → ℕ → ℕ → Type 0
