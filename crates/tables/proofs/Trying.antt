@@ -1,6 +1,6 @@
 -- Trying members one after the other, the lowest or the highest first.
 -- Assumes nothing.
-use Rattle.std.proofs.Common.{◌≡◌, ◌≢◌, ℕ, zero, suc, ◌+◌, ◌-◌, ◌*◌, ◌/◌, ◌%◌, ◌^◌, ◌<◌, ◌≤◌, ◌⊎◌, inl, inr, ◌↔◌, List, length, get_or, arith, Bool, true, false, refl, sym, ◌∙◌, ap, bit_and}
+use Rattle.std.proofs.Common.{◌≡◌, ◌≢◌, ℕ, zero, suc, ◌+◌, ◌-◌, ◌*◌, ◌/◌, ◌%◌, ◌^◌, ◌<◌, ◌≤◌, ◌⊎◌, inl, inr, ◌↔◌, List, length, get_or, arith, Bool, true, false, refl, sym, ◌∙◌, ap, zero-add, bit_and, bit_or}
 use Rattle.std.proofs.Math.Nat.{pow-le-pow_right, mod-eq_of_lt}
 use native.Mathlib.Nat.{pow-suc}
 use native.Mathlib.Decide.{ℕ_discrete}
@@ -10,13 +10,13 @@ use lib.Count.{count_leading_zeros, count_trailing_zeros}
 use borrow.Author.Tests.{eqb-true, eq-eqb}
 use Rattle.std.proofs.lemmas.Nat.{one_shl}
 use Rattle.paper.specs.Bits.{bit_at}
-use Rattle.paper.specs.Grammar.{Grammar}
+use Rattle.paper.specs.Grammar.{Grammar, IsGrammar, rule_count, members}
 use Rattle.paper.specs.Entry.{may_take}
 use Rattle.paper.specs.Sheet.{mask, rest_of}
 use Rattle.tables.specs.Masks.{Proper, Takeable, LastFound, TakenFrom}
 use Rattle.tables.specs.Table.{bars_of}
-use Rattle.paper.proofs.Bits.{bit_place, bit_zero, clear_here, clear_other, trailing_lt, trailing_set, leading_lt, leading_set, leading_clear}
-use Rattle.tables.proofs.Masks.{may, may_not, take_mask, taken_exactly, last_once}
+use Rattle.paper.proofs.Bits.{bit_place, bit_lt, bit_zero, bit_or_lem, set_here, set_other, clear_here, clear_other, trailing_lt, trailing_set, leading_lt, leading_set, leading_clear}
+use Rattle.tables.proofs.Masks.{may, may_back, may_not, take_mask, taken_exactly, last_once}
 
 -- a byte with a bit for each of at most eight members is no wider
 pub byte_fits : (n : ℕ) → n ≤ 8 → 1 * 2 ^ n % 65536 - 1 ≡ 2 ^ n - 1
@@ -88,6 +88,8 @@ module _ {x b a : ℕ} {same : Bool} (e : b ≡ x) (f : same ≡ eqb b a) where
   pub is_not_a : same ≡ false → x ≢ a
   is_not_a h g = let y : eqb b a ≡ true = eq-eqb b a (e ∙ g) in cc
 
+-- ## Taking one
+
 -- a member that may be taken is not a
 abbrev pub IsNot : Grammar → List ℕ → ℕ → ℕ → ℕ → Type 0
 IsNot g s rest a k = Takeable g s rest k → get_or s k 0 ≢ a
@@ -99,3 +101,50 @@ none_is {g} {s} {rest} {a} u e = may_not g s rest a (λ k t. none_untried u e k 
 -- a member that may be taken, and is a
 pub takes : {g : Grammar} {s : List ℕ} {rest a k : ℕ} → Proper s rest → Takeable g s rest k → get_or s k 0 ≡ a → TakenFrom g s a rest (rest - 2 ^ k)
 takes p t e = record { proper = p; may = rw (← e) (may t); becomes = rw (← e) (take_mask p t) }
+
+-- ## What may be taken
+
+or_here : (n x : ℕ) → bit_at x (bit_or n (2 ^ x)) ≡ 1
+or_here n x = let e = rw zero-add at (set_here x 0 (bit_zero x)) in omega (arith, bit_or_lem x n (2 ^ x), bit_lt x n)
+
+or_other : (n x j : ℕ) → j ≢ x → bit_at j (bit_or n (2 ^ x)) ≡ bit_at j n
+or_other n x j ne = let e = rw zero-add at (set_other x j 0 (bit_zero x) ne) in omega (arith, bit_or_lem j n (2 ^ x), bit_zero j)
+
+or_still : (n m j : ℕ) → bit_at j n ≡ 1 → bit_at j (bit_or n m) ≡ 1
+or_still n m j e = omega (arith, bit_or_lem j n m, bit_lt j m)
+
+-- if member k may be taken, its symbol is gathered
+abbrev pub IsGathered : Grammar → List ℕ → ℕ → ℕ → ℕ → Type 0
+IsGathered g s rest symbols k = Takeable g s rest k → bit_at (get_or s k 0) symbols ≡ 1
+
+-- a member is a symbol, and none is above 63
+pub few : {g : Grammar} {h k x : ℕ} → IsGrammar g → h < rule_count g → k < length (members g h) → x ≡ get_or (members g h) k 0 → x < 64
+few {g} {h} {k} is l m e = omega (arith, is.few_symbols, is.members_are h k l m)
+
+-- The symbols gathered may be taken, and each that may be is gathered once its member is tried.
+pub record Gathered (g : Grammar) (s : List ℕ) (rest untried symbols : ℕ) : Type 0 where
+  pub untried_are : Untried rest untried (IsGathered g s rest symbols)
+  pub each_may : (a : ℕ) → bit_at a symbols ≡ 1 → may_take g a (rest_of s rest) ≡ true
+
+pub none_gathered : (g : Grammar) (s : List ℕ) (rest : ℕ) → Gathered g s rest rest 0
+none_gathered g s rest = record { untried_are = all_untried rest (IsGathered g s rest 0); each_may = λ a e. absurd (let z : ⊥ = omega (arith, bit_zero a) in z) }
+
+module _ {g : Grammar} {s : List ℕ} {rest untried symbols k : ℕ} (u : Gathered g s rest untried symbols) (n : IsNext s rest untried k) where
+  -- a member that may not be taken is tried
+  pub passed : (Takeable g s rest k → ⊥) → Gathered g s rest (untried - 2 ^ k) symbols
+  passed f = record { untried_are = one_tried u.untried_are (λ j h. h) k n.is_untried (λ t. absurd (f t)); each_may = u.each_may }
+
+  -- one that may be is tried, and its symbol gathered
+  pub gathered : (x : ℕ) → x ≡ get_or s k 0 → Takeable g s rest k → Gathered g s rest (untried - 2 ^ k) (bit_or symbols (2 ^ x))
+  gathered x e t = record { untried_are = one_tried u.untried_are (λ j h q. or_still symbols (2 ^ x) (get_or s j 0) (h q)) k n.is_untried (λ q. rw (← e) (or_here symbols x)); each_may = λ a. each a (ℕ_discrete a x) }
+    where
+      each : (a : ℕ) → Dec (a ≡ x) → bit_at a (bit_or symbols (2 ^ x)) ≡ 1 → may_take g a (rest_of s rest) ≡ true
+      each a (yes f) h = rw (f ∙ e) (may t)
+      each a (no ne) h = u.each_may a (sym (or_other symbols x a ne) ∙ h)
+
+-- when none is untried, exactly those that may be taken are gathered
+pub all_gathered : {g : Grammar} {s : List ℕ} {rest untried symbols : ℕ} → Gathered g s rest untried symbols → untried ≡ 0 → (a : ℕ) → (bit_at a symbols ≡ 1) ↔ (may_take g a (rest_of s rest) ≡ true)
+all_gathered {g} {s} {rest} {untried} {symbols} u e a = (u.each_may a, λ h. back (may_back g s rest a h))
+  where
+    back : (k : ℕ) × Takeable g s rest k × (get_or s k 0 ≡ a) → bit_at a symbols ≡ 1
+    back (k, t, f) = rw (← f) (none_untried u.untried_are e k t.is_left t)

@@ -45,6 +45,8 @@ impl Grammar<'_> {
         requires byte { IsByte (grammar_of self.now) h.0 rest }
         ensures { (a : ℕ) → (bit_at a result ≡ 1) ↔ (may_be_taken (grammar_of self.now) h.0 rest a ≡ true) }
     {
+        // Opens the value: an admitted grammar has no symbol above 63.
+        let _ = &self.image;
         let mut symbols = 0;
         let mut untried = rest;
         while untried != 0 {
