@@ -15,8 +15,8 @@ use Rattle.paper.specs.Entry.{may_take}
 use Rattle.paper.specs.Sheet.{mask, rest_of}
 use Rattle.tables.specs.Masks.{Proper, Takeable, LastFound, TakenFrom}
 use Rattle.tables.specs.Table.{bars_of}
-use Rattle.paper.proofs.Bits.{bit_place, bit_lt, bit_zero, bit_or_lem, set_here, set_other, clear_here, clear_other, trailing_lt, trailing_set, leading_lt, leading_set, leading_clear}
-use Rattle.tables.proofs.Masks.{may, may_back, may_not, take_mask, taken_exactly, last_once}
+use Rattle.paper.proofs.Bits.{bit_cases, bit_place, bit_lt, bit_zero, bit_or_lem, set_here, set_other, clear_here, clear_other, trailing_lt, trailing_set, leading_lt, leading_set, leading_clear}
+use Rattle.tables.proofs.Masks.{full_mask, may, may_back, may_not, take_mask, taken_exactly, last_once}
 
 -- a byte with a bit for each of at most eight members is no wider
 pub byte_fits : (n : ℕ) → n ≤ 8 → 1 * 2 ^ n % 65536 - 1 ≡ 2 ^ n - 1
@@ -148,3 +148,58 @@ all_gathered {g} {s} {rest} {untried} {symbols} u e a = (u.each_may a, λ h. bac
   where
     back : (k : ℕ) × Takeable g s rest k × (get_or s k 0 ≡ a) → bit_at a symbols ≡ 1
     back (k, t, f) = rw (← f) (none_untried u.untried_are e k t.is_left t)
+
+-- ## Putting one back
+
+-- of the bits below n, those that m has not
+others : (n k m : ℕ) → k < n → m < 2 ^ n → bit_at k (2 ^ n - 1 - m) + bit_at k m ≡ 1
+unfolding bit_at
+others zero k m l h = absurd (let z : ⊥ = omega arith in z)
+others (suc n) zero m l h = omega (arith, pow-suc 2 n, pow_pos n)
+others (suc n) (suc k) m l h =
+    let e : (2 ^ suc n - 1 - m) / 2 ≡ 2 ^ n - 1 - m / 2 = omega (arith, pow-suc 2 n, pow_pos n) in
+    ap (λ x. bit_at k x + bit_at k (m / 2)) e ∙ others n k (m / 2) (omega arith) (omega (arith, pow-suc 2 n))
+
+-- a member is not a
+abbrev pub IsOther : List ℕ → ℕ → ℕ → Type 0
+IsOther s a k = get_or s k 0 ≢ a
+
+module _ {s : List ℕ} {rest a found : ℕ} (p : Proper s rest) (u : Untried (mask s s - rest) found (IsOther s a)) where
+  -- the members found
+  pub found_below : mask s s - rest < 2 ^ length s
+  found_below = omega (arith, full_mask s, pow_pos (length s))
+
+  found_bit : (k : ℕ) → k < length s → bit_at k (mask s s - rest) + bit_at k rest ≡ 1
+  found_bit k l = ap (λ x. bit_at k (x - rest) + bit_at k rest) (full_mask s) ∙ others (length s) k rest l p.below
+
+  found_later : (k : ℕ) → ((j : ℕ) → k < j → bit_at j found ≡ 0) → (j : ℕ) → k < j → j < length s → get_or s j 0 ≡ a → (bit_at j rest ≡ 0) ⊎ (bit_at j rest ≡ 1) → bit_at j rest ≡ 1
+  found_later k f j l h e (inl x) = absurd (u.tried j (omega (arith, found_bit j h)) (f j l) e)
+  found_later k f j l h e (inr x) = x
+
+  -- the highest that is a is the last found of its equals
+  pub last : found < 256 → found ≢ 0 → get_or s (7 - count_leading_zeros 8 found) 0 ≡ a → LastFound s rest a (7 - count_leading_zeros 8 found)
+  last fits some e =
+      let k : ℕ = 7 - count_leading_zeros 8 found in
+      let n = highest found_below u fits some in
+      record {
+        place = n.place;
+        member = e;
+        is_found = omega (arith, found_bit (7 - count_leading_zeros 8 found) n.place, n.is_in);
+        later = λ j l h f. found_later (7 - count_leading_zeros 8 found) (λ i m. leading_clear 8 i found some fits m) j l h f (bit_cases j rest);
+      }
+
+  -- when none is left, a was taken from no byte
+  pub never : (g : Grammar) → found ≡ 0 → (n : ℕ) → TakenFrom g s a n rest → ⊥
+  never g e n t =
+      let (k, l, v, f) = (taken_exactly g s a n rest p).0 t in
+      none_untried u e k (omega (arith, found_bit k l.place, l.is_found)) l.member
+
+-- the last found goes back, if no member that bars it is left
+module _ {g : Grammar} {s : List ℕ} {rest a k bars : ℕ} (p : Proper s rest) (l : LastFound s rest a k) (e : bars ≡ bars_of g s k) where
+  pub back : bit_and (rest + 2 ^ k) bars ≡ 0 → TakenFrom g s a (rest + 2 ^ k) rest
+  back f = (taken_exactly g s a (rest + 2 ^ k) rest p).1 (k, l, ap (bit_and (rest + 2 ^ k)) (sym e) ∙ f, refl)
+
+  pub stuck : (bit_and (rest + 2 ^ k) bars ≡ 0 → ⊥) → (n : ℕ) → TakenFrom g s a n rest → ⊥
+  stuck f n t =
+      let (j, m, v, h) = (taken_exactly g s a n rest p).0 t in
+      f (ap (bit_and (rest + 2 ^ k)) e ∙ (ap (λ i. bit_and (rest + 2 ^ i) (bars_of g s i)) (last_once l m) ∙ v))

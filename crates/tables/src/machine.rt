@@ -1,9 +1,10 @@
 // A rule as a little machine on a byte: a bit is set for each member that is still to be found. What may be taken, and what is then left.
 
-ghost use Rattle.std.specs.Prelude.{◌≡◌, ◌↔◌, ℕ, true, false, ◌<◌, MatchOption, IfSome};
+ghost use Rattle.std.specs.Prelude.{◌≡◌, ◌↔◌, ℕ, true, false, ◌<◌, MatchOption, IfSome, length};
 ghost use Rattle.paper.specs.Bits.{bit_at};
-ghost use Rattle.paper.specs.Grammar.{rule_count};
+ghost use Rattle.paper.specs.Grammar.{rule_count, members};
 ghost use Rattle.paper.specs.Image.{grammar_of};
+ghost use Rattle.paper.specs.Sheet.{rest_of};
 ghost use Rattle.tables.specs.Machine.{full_byte, IsByte, may_be_taken, Leaves};
 
 use paper::{RuleNo, SymbolNo};
@@ -57,6 +58,15 @@ impl Grammar<'_> {
             untried -= 1 << k;
         }
         symbols
+    }
+
+    /// How many members are left in the rest.
+    pub fn members_left(&self, h: RuleNo, rest: u8) -> usize
+        requires rule { h.0 < rule_count (grammar_of self.now) }
+        requires byte { IsByte (grammar_of self.now) h.0 rest }
+        ensures { result ≡ length (rest_of (members (grammar_of self.now) h.0) rest) }
+    {
+        rest.count_ones() as usize
     }
 
     /// The byte from which taking symbol a leaves this rest, if there is one.
