@@ -15,7 +15,7 @@ use Rattle.paper.specs.Entry.{may_take}
 use Rattle.paper.specs.Sheet.{mask, rest_of}
 use Rattle.tables.specs.Masks.{Proper, Takeable, LastFound, TakenFrom}
 use Rattle.tables.specs.Table.{bars_of}
-use Rattle.paper.proofs.Bits.{bit_cases, bit_place, bit_lt, bit_zero, bit_or_lem, set_here, set_other, clear_here, clear_other, trailing_lt, trailing_set, leading_lt, leading_set, leading_clear}
+use Rattle.paper.proofs.Bits.{bit_cases, bit_place, bit_power_le, bit_lt, bit_zero, bit_or_lem, set_here, set_other, set_lt, clear_here, clear_other, clear_lt, trailing_lt, trailing_set, leading_set, leading_clear}
 use Rattle.tables.proofs.Masks.{full_mask, may, may_back, may_not, take_mask, taken_exactly, last_once}
 
 -- a byte with a bit for each of at most eight members is no wider
@@ -37,7 +37,8 @@ pub all_untried : (all : ℕ) (So : ℕ → Type 0) → Untried all all So
 all_untried all So = record { within = λ k e. e; tried = λ k e f. absurd (omega arith) }
 
 -- one more is tried
-pub one_tried : {all untried : ℕ} {So Now : ℕ → Type 0} → Untried all untried So → ((j : ℕ) → So j → Now j) → (k : ℕ) → bit_at k untried ≡ 1 → Now k → Untried all (untried - 2 ^ k) Now
+pub one_tried : {all untried : ℕ} {So Now : ℕ → Type 0} → Untried all untried So → ((j : ℕ) → So j → Now j) → (k : ℕ) → bit_at k untried ≡ 1 → Now k
+    → Untried all (untried - 2 ^ k) Now
 one_tried {all} {untried} {So} {Now} u onward k e here = record { within = λ j. still j (ℕ_discrete j k); tried = λ j. done j (ℕ_discrete j k) }
   where
     still : (j : ℕ) → Dec (j ≡ k) → bit_at j (untried - 2 ^ k) ≡ 1 → bit_at j all ≡ 1
@@ -58,6 +59,16 @@ pub record IsNext (s : List ℕ) (all untried k : ℕ) : Type 0 where
   pub is_in : bit_at k all ≡ 1
   pub is_untried : bit_at k untried ≡ 1
   pub shifted : 1 * 2 ^ k % 256 ≡ 2 ^ k
+
+module _ {s : List ℕ} {all untried k : ℕ} (n : IsNext s all untried k) where
+  pub is_within : 1 * 2 ^ k % 256 ≤ all
+  is_within = rw n.shifted (bit_power_le k all n.is_in)
+
+  pub is_at_most : 1 * 2 ^ k % 256 ≤ untried
+  is_at_most = rw n.shifted (bit_power_le k untried n.is_untried)
+
+  pub goes_down : untried - 1 * 2 ^ k % 256 < untried
+  goes_down = rw n.shifted (clear_lt k untried n.is_untried)
 
 module _ {s : List ℕ} {all untried : ℕ} {So : ℕ → Type 0} (below : all < 2 ^ length s) (u : Untried all untried So) (fits : untried < 256) (some : untried ≢ 0) where
   next : (k : ℕ) → k < 8 → bit_at k untried ≡ 1 → IsNext s all untried k
@@ -95,7 +106,8 @@ abbrev pub IsNot : Grammar → List ℕ → ℕ → ℕ → ℕ → Type 0
 IsNot g s rest a k = Takeable g s rest k → get_or s k 0 ≢ a
 
 -- when none is untried, a may not be taken
-pub none_is : {g : Grammar} {s : List ℕ} {rest a untried : ℕ} → Untried rest untried (IsNot g s rest a) → untried ≡ 0 → may_take g a (rest_of s rest) ≡ false
+pub none_is : {g : Grammar} {s : List ℕ} {rest a untried : ℕ} → Untried rest untried (IsNot g s rest a) → untried ≡ 0
+    → may_take g a (rest_of s rest) ≡ false
 none_is {g} {s} {rest} {a} u e = may_not g s rest a (λ k t. none_untried u e k t.is_left t)
 
 -- a member that may be taken, and is a
@@ -118,8 +130,8 @@ abbrev pub IsGathered : Grammar → List ℕ → ℕ → ℕ → ℕ → Type 0
 IsGathered g s rest symbols k = Takeable g s rest k → bit_at (get_or s k 0) symbols ≡ 1
 
 -- a member is a symbol, and none is above 63
-pub few : {g : Grammar} {h k x : ℕ} → IsGrammar g → h < rule_count g → k < length (members g h) → x ≡ get_or (members g h) k 0 → x < 64
-few {g} {h} {k} is l m e = omega (arith, is.few_symbols, is.members_are h k l m)
+pub member_lt : {g : Grammar} {h k x : ℕ} → IsGrammar g → h < rule_count g → k < length (members g h) → x ≡ get_or (members g h) k 0 → x < 64
+member_lt {g} {h} {k} is l m e = omega (arith, is.few_symbols, is.members_are h k l m)
 
 -- The symbols gathered may be taken, and each that may be is gathered once its member is tried.
 pub record Gathered (g : Grammar) (s : List ℕ) (rest untried symbols : ℕ) : Type 0 where
@@ -127,7 +139,10 @@ pub record Gathered (g : Grammar) (s : List ℕ) (rest untried symbols : ℕ) : 
   pub each_may : (a : ℕ) → bit_at a symbols ≡ 1 → may_take g a (rest_of s rest) ≡ true
 
 pub none_gathered : (g : Grammar) (s : List ℕ) (rest : ℕ) → Gathered g s rest rest 0
-none_gathered g s rest = record { untried_are = all_untried rest (IsGathered g s rest 0); each_may = λ a e. absurd (let z : ⊥ = omega (arith, bit_zero a) in z) }
+none_gathered g s rest = record {
+  untried_are = all_untried rest (IsGathered g s rest 0);
+  each_may = λ a e. absurd (let z : ⊥ = omega (arith, bit_zero a) in z);
+}
 
 module _ {g : Grammar} {s : List ℕ} {rest untried symbols k : ℕ} (u : Gathered g s rest untried symbols) (n : IsNext s rest untried k) where
   -- a member that may not be taken is tried
@@ -136,14 +151,18 @@ module _ {g : Grammar} {s : List ℕ} {rest untried symbols k : ℕ} (u : Gather
 
   -- one that may be is tried, and its symbol gathered
   pub gathered : (x : ℕ) → x ≡ get_or s k 0 → Takeable g s rest k → Gathered g s rest (untried - 2 ^ k) (bit_or symbols (2 ^ x))
-  gathered x e t = record { untried_are = one_tried u.untried_are (λ j h q. or_still symbols (2 ^ x) (get_or s j 0) (h q)) k n.is_untried (λ q. rw (← e) (or_here symbols x)); each_may = λ a. each a (ℕ_discrete a x) }
+  gathered x e t = record {
+    untried_are = one_tried u.untried_are (λ j h q. or_still symbols (2 ^ x) (get_or s j 0) (h q)) k n.is_untried (λ q. rw (← e) (or_here symbols x));
+    each_may = λ a. each a (ℕ_discrete a x);
+  }
     where
       each : (a : ℕ) → Dec (a ≡ x) → bit_at a (bit_or symbols (2 ^ x)) ≡ 1 → may_take g a (rest_of s rest) ≡ true
       each a (yes f) h = rw (f ∙ e) (may t)
       each a (no ne) h = u.each_may a (sym (or_other symbols x a ne) ∙ h)
 
 -- when none is untried, exactly those that may be taken are gathered
-pub all_gathered : {g : Grammar} {s : List ℕ} {rest untried symbols : ℕ} → Gathered g s rest untried symbols → untried ≡ 0 → (a : ℕ) → (bit_at a symbols ≡ 1) ↔ (may_take g a (rest_of s rest) ≡ true)
+pub all_gathered : {g : Grammar} {s : List ℕ} {rest untried symbols : ℕ} → Gathered g s rest untried symbols → untried ≡ 0
+    → (a : ℕ) → (bit_at a symbols ≡ 1) ↔ (may_take g a (rest_of s rest) ≡ true)
 all_gathered {g} {s} {rest} {untried} {symbols} u e a = (u.each_may a, λ h. back (may_back g s rest a h))
   where
     back : (k : ℕ) × Takeable g s rest k × (get_or s k 0 ≡ a) → bit_at a symbols ≡ 1
@@ -165,22 +184,24 @@ abbrev pub IsOther : List ℕ → ℕ → ℕ → Type 0
 IsOther s a k = get_or s k 0 ≢ a
 
 module _ {s : List ℕ} {rest a found : ℕ} (p : Proper s rest) (u : Untried (mask s s - rest) found (IsOther s a)) where
-  -- the members found
-  pub found_below : mask s s - rest < 2 ^ length s
+  found_below : mask s s - rest < 2 ^ length s
   found_below = omega (arith, full_mask s, pow_pos (length s))
+
+  pub highest_found : found < 256 → found ≢ 0 → IsNext s (mask s s - rest) found (7 - count_leading_zeros 8 found)
+  highest_found = highest found_below u
 
   found_bit : (k : ℕ) → k < length s → bit_at k (mask s s - rest) + bit_at k rest ≡ 1
   found_bit k l = ap (λ x. bit_at k (x - rest) + bit_at k rest) (full_mask s) ∙ others (length s) k rest l p.below
 
-  found_later : (k : ℕ) → ((j : ℕ) → k < j → bit_at j found ≡ 0) → (j : ℕ) → k < j → j < length s → get_or s j 0 ≡ a → (bit_at j rest ≡ 0) ⊎ (bit_at j rest ≡ 1) → bit_at j rest ≡ 1
+  found_later : (k : ℕ) → ((j : ℕ) → k < j → bit_at j found ≡ 0) → (j : ℕ) → k < j → j < length s → get_or s j 0 ≡ a
+      → (bit_at j rest ≡ 0) ⊎ (bit_at j rest ≡ 1) → bit_at j rest ≡ 1
   found_later k f j l h e (inl x) = absurd (u.tried j (omega (arith, found_bit j h)) (f j l) e)
   found_later k f j l h e (inr x) = x
 
   -- the highest that is a is the last found of its equals
   pub last : found < 256 → found ≢ 0 → get_or s (7 - count_leading_zeros 8 found) 0 ≡ a → LastFound s rest a (7 - count_leading_zeros 8 found)
   last fits some e =
-      let k : ℕ = 7 - count_leading_zeros 8 found in
-      let n = highest found_below u fits some in
+      let n = highest_found fits some in
       record {
         place = n.place;
         member = e;
@@ -193,6 +214,10 @@ module _ {s : List ℕ} {rest a found : ℕ} (p : Proper s rest) (u : Untried (m
   never g e n t =
       let (k, l, v, f) = (taken_exactly g s a n rest p).0 t in
       none_untried u e k (omega (arith, found_bit k l.place, l.is_found)) l.member
+
+-- with one more member the byte is still one
+pub back_fits : {s : List ℕ} {rest a k full : ℕ} → Proper s rest → LastFound s rest a k → full ≡ mask s s → full < 256 → rest + 2 ^ k < 256
+back_fits {s} {rest} {a} {k} p l e few = omega (arith, set_lt (length s) k rest l.place p.below l.is_found, full_mask s)
 
 -- the last found goes back, if no member that bars it is left
 module _ {g : Grammar} {s : List ℕ} {rest a k bars : ℕ} (p : Proper s rest) (l : LastFound s rest a k) (e : bars ≡ bars_of g s k) where

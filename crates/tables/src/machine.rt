@@ -7,9 +7,8 @@ ghost use Rattle.paper.specs.Image.{grammar_of};
 ghost use Rattle.paper.specs.Sheet.{rest_of};
 ghost use Rattle.tables.specs.Machine.{full_byte, IsByte, may_be_taken, Leaves};
 
-use paper::{RuleNo, SymbolNo};
-
 use crate::Grammar;
+use paper::{RuleNo, SymbolNo};
 
 impl Grammar<'_> {
     /// The byte of rule h with nothing found yet.
@@ -82,7 +81,11 @@ impl Grammar<'_> {
             let k = 7 - found.leading_zeros() as usize;
             if self.member(h, k) == a {
                 let before = rest + (1 << k);
-                return if before & self.bars(h, k) == 0 { Some(before) } else { None };
+                return if before & self.bars(h, k) == 0 {
+                    Some(before)
+                } else {
+                    None
+                };
             }
             found -= 1 << k;
         }

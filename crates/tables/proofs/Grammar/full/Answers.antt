@@ -1,4 +1,4 @@
-use Rattle.std.proofs.Common.{◌≡◌, ℕ, ◌^◌, ◌-◌, ◌%◌, ◌*◌, ◌≤◌, ◌<◌, length, sym, arith}
+use Rattle.std.proofs.Common.{sym}
 use Rattle.paper.specs.Grammar.{members}
 use Rattle.paper.specs.Image.{grammar_of}
 use Rattle.tables.proofs.Masks.{full_mask, full_proper}

@@ -1,4 +1,4 @@
-use Rattle.std.proofs.Common.{◌≡◌, ℕ, sym}
+use Rattle.std.proofs.Common.{sym}
 use Rattle.tables.proofs.Masks.{rest_length}
 use Rattle.tables.proofs.Grammar.members_left.Goals as goal
 

@@ -1,4 +1,4 @@
-use Rattle.std.proofs.Common.{◌≡◌, ℕ, ◌-◌}
+use Rattle.std.proofs.Common.{◌-◌}
 use Rattle.paper.specs.Grammar.{members}
 use Rattle.paper.specs.Image.{grammar_of}
 use Rattle.tables.specs.Machine.{full_byte}

@@ -1,4 +1,3 @@
-use Rattle.std.proofs.Common.{◌≡◌, ℕ}
 use Rattle.paper.specs.Grammar.{members}
 use Rattle.paper.specs.Image.{grammar_of}
 use Rattle.tables.proofs.Trying.{Gathered}
