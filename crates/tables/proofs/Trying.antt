@@ -64,11 +64,11 @@ module _ {s : List ℕ} {all untried k : ℕ} (n : IsNext s all untried k) where
   pub is_within : 1 * 2 ^ k % 256 ≤ all
   is_within = rw n.shifted (bit_power_le k all n.is_in)
 
+  pub less_than_all : all - 1 * 2 ^ k % 256 < all
+  less_than_all = rw n.shifted (clear_lt k all n.is_in)
+
   pub is_at_most : 1 * 2 ^ k % 256 ≤ untried
   is_at_most = rw n.shifted (bit_power_le k untried n.is_untried)
-
-  pub goes_down : untried - 1 * 2 ^ k % 256 < untried
-  goes_down = rw n.shifted (clear_lt k untried n.is_untried)
 
 module _ {s : List ℕ} {all untried : ℕ} {So : ℕ → Type 0} (below : all < 2 ^ length s) (u : Untried all untried So) (fits : untried < 256) (some : untried ≢ 0) where
   next : (k : ℕ) → k < 8 → bit_at k untried ≡ 1 → IsNext s all untried k
@@ -82,8 +82,9 @@ module _ {s : List ℕ} {all untried : ℕ} {So : ℕ → Type 0} (below : all <
   pub highest : IsNext s all untried (7 - count_leading_zeros 8 untried)
   highest = next (7 - count_leading_zeros 8 untried) (omega arith) (leading_set 8 untried some fits)
 
--- ## Taking
+-- ## What the code tests
 
+-- whether the members that bar member k are found
 module _ {g : Grammar} {s : List ℕ} {rest k bars : ℕ} (e : bars ≡ bars_of g s k) where
   pub free : {untried : ℕ} → IsNext s rest untried k → bit_and rest bars ≡ 0 → Takeable g s rest k
   free n f = record { place = n.place; is_left = n.is_in; unbarred = ap (bit_and rest) (sym e) ∙ f }

@@ -1,8 +1,7 @@
 use Rattle.std.proofs.Common.{arith}
 use lib.Count.{count_trailing_zeros}
-use Rattle.paper.proofs.Bits.{clear_lt}
 use Rattle.tables.proofs.Masks.{take_proper}
-use Rattle.tables.proofs.Trying.{lowest, is_within, is_at_most, goes_down, one_tried, free, not_free, is_a, is_not_a, none_is, takes}
+use Rattle.tables.proofs.Trying.{lowest, is_within, less_than_all, is_at_most, one_tried, free, not_free, is_a, is_not_a, none_is, takes}
 use Rattle.tables.proofs.Grammar.take.Goals as goal
 use Rattle.tables.proofs.Grammar.take.Goals.{else-eq-via-then-eq+else-rest-bars-eq0, else-eq-via-else-eq}
 
@@ -26,15 +25,10 @@ returns-then-rest-bars-eq0-clause-byte c =
     rw n.shifted (take_proper c.requires.byte (free c.bars.ensures n c.if-rest-bars-eq0.true))
 
 pub returns-then-rest-bars-eq0-clause-smaller : goal.returns-then-rest-bars-eq0-clause-smaller
-returns-then-rest-bars-eq0-clause-smaller c =
-    let n = lowest c.requires.byte.below c.loop-untried.invariant (omega arith) c.loop-untried-test.true in
-    rw n.shifted (clear_lt (count_trailing_zeros 8 c.loop-untried.untried) c.args.rest n.is_in)
+returns-then-rest-bars-eq0-clause-smaller c = less_than_all (lowest c.requires.byte.below c.loop-untried.invariant (omega arith) c.loop-untried-test.true)
 
 pub overflow_sub-untried : goal.overflow_sub-untried
 overflow_sub-untried c = is_at_most (lowest c.requires.byte.below c.loop-untried.invariant (omega arith) c.loop-untried-test.true)
-
-pub loop-untried-smaller : goal.loop-untried-smaller
-loop-untried-smaller c = goes_down (lowest c.requires.byte.below c.loop-untried.invariant (omega arith) c.loop-untried-test.true)
 
 pub loop-untried-preserved : goal.loop-untried-preserved
 loop-untried-preserved c =

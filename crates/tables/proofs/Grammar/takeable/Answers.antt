@@ -2,7 +2,7 @@ use Rattle.std.proofs.Common.{◌<◌, arith}
 use Rattle.std.proofs.lemmas.Nat.{one_shl}
 use Rattle.paper.specs.Grammar.{IsGrammar, members}
 use Rattle.paper.specs.Image.{grammar_of}
-use Rattle.tables.proofs.Trying.{lowest, is_at_most, goes_down, none_gathered, free, not_free, member_lt, passed, gathered, all_gathered}
+use Rattle.tables.proofs.Trying.{lowest, is_at_most, none_gathered, free, not_free, member_lt, passed, gathered, all_gathered}
 use Rattle.tables.proofs.Grammar.takeable.Goals as goal
 use Rattle.tables.proofs.Grammar.takeable.Goals.{then-rest-bars-eq0, else-rest-bars-eq0}
 
@@ -35,9 +35,6 @@ loop-untried-preserved c =
           rw (n.shifted, w.symbols-is, one_shl w.member.result.0 64 small) (gathered c.loop-untried.invariant n w.member.result.0 w.member.ensures t))
       | else-rest-bars-eq0 w ↦ rw (n.shifted, w.symbols-is) (passed c.loop-untried.invariant n (not_free c.bars.ensures w.if-rest-bars-eq0.false))
     ]
-
-pub loop-untried-smaller : goal.loop-untried-smaller
-loop-untried-smaller c = goes_down (lowest c.requires.byte.below c.loop-untried.invariant.untried_are (omega arith) c.loop-untried-test.true)
 
 pub returns : goal.returns
 returns c = all_gathered c.loop-untried.invariant c.loop-untried-test.false
