@@ -26,7 +26,7 @@ every_below (suc n) p = p n && every_below n p
 
 every_below_lem : (n : ℕ) (p : ℕ → Bool) → every_below n p ≡ true → (k : ℕ) → k < n → p k ≡ true
 unfolding every_below
-every_below_lem zero p h k l = absurd (let z : ⊥ = omega arith in z)
+every_below_lem zero p h k l = absurd (omega arith)
 every_below_lem (suc n) p h k l = go (ℕ_discrete k n) ((and-eq-true_iff (p n) (every_below n p)).0 h) (every_below_lem n p)
   where
     go : Dec (k ≡ n) → (p n ≡ true) × (every_below n p ≡ true) → (every_below n p ≡ true → (x : ℕ) → x < n → p x ≡ true) → p k ≡ true
@@ -78,7 +78,7 @@ module _ (g : Grammar) (row ns : List ℕ) (k : ℕ) where
 -- a list of length 0 is empty
 no_length : (s : List ℕ) → eqb (length s) 0 ≡ true → s ≡ []
 no_length [] h = refl
-no_length (a ∷ s) h = absurd (let z : suc (length s) ≡ 0 = eqb-true (suc (length s)) 0 h in let k : ⊥ = omega arith in k)
+no_length (a ∷ s) h = absurd (let z : suc (length s) ≡ 0 = eqb-true (suc (length s)) 0 h in omega arith)
 
 -- symbols that may be taken in turn from the members, and leave none, are an acceptable arrangement of them
 unfoldable pub arranges : Grammar → List ℕ → List ℕ → Bool

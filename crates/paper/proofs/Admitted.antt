@@ -233,8 +233,7 @@ module _ (pairs : List Pair) (order : StrictPartialOrder (paired pairs)) where
   apart a b w e =
       let f = order.irreflexive b in
       let g = subst (λ (x : ℕ). paired pairs x b ≡ true) e w in
-      let z : ◌≡◌ {A = ℕ} 0 1 = cc in
-      let l : ⊥ = omega arith in l
+      cc
 
   closing_sound : (k : ℕ) (more : List Pair) → ((c d : ℕ) → paired more c d ≡ true → paired pairs c d ≡ true) → closing_fault pairs k more ≡ sound
   unfolding closing_fault

@@ -38,7 +38,7 @@ pub bit_high : (n k x : ℕ) → n ≤ k → x < 2 ^ n → bit_at k x ≡ 0
 unfolding bit_at
 bit_high zero zero x l h = omega arith
 bit_high zero (suc k) x l h = bit_high zero k (x / 2) (omega arith) (omega arith)
-bit_high (suc n) zero x l h = absurd (let z : ⊥ = omega arith in z)
+bit_high (suc n) zero x l h = absurd (omega arith)
 bit_high (suc n) (suc k) x l h = bit_high n k (x / 2) (omega arith) (omega (arith, pow-suc 2 n))
 
 pub bit_place : (n k x : ℕ) → x < 2 ^ n → bit_at k x ≡ 1 → k < n
@@ -46,7 +46,7 @@ bit_place n k x h e = go (dec_lt k n)
   where
     go : Dec (k < n) → k < n
     go (yes l) = l
-    go (no l) = absurd (let z : ⊥ = omega (arith, bit_high n k x (omega arith) h) in z)
+    go (no l) = absurd (omega (arith, bit_high n k x (omega arith) h))
 
 -- a number with bit k set is at least 2 ^ k
 pub bit_power_le : (k x : ℕ) → bit_at k x ≡ 1 → 2 ^ k ≤ x
@@ -87,7 +87,7 @@ bits_same (suc n) x y h l f =
 -- every bit below n of 2 ^ n - 1 is set
 pub bit_ones : (n k : ℕ) → k < n → bit_at k (2 ^ n - 1) ≡ 1
 unfolding bit_at
-bit_ones zero k l = absurd (let z : ⊥ = omega arith in z)
+bit_ones zero k l = absurd (omega arith)
 bit_ones (suc n) zero l = omega (arith, pow-suc 2 n, pow_pos n)
 bit_ones (suc n) (suc k) l = let e : (2 ^ suc n - 1) / 2 ≡ 2 ^ n - 1 = omega (arith, pow-suc 2 n, pow_pos n) in ap (bit_at k) e ∙ bit_ones n k (omega arith)
 
@@ -124,7 +124,7 @@ set_other (suc k) (suc j) x e ne = ap (bit_at j) (add_half k x) ∙ set_other k 
 -- it stays below 2 ^ n
 pub set_lt : (n k x : ℕ) → k < n → x < 2 ^ n → bit_at k x ≡ 0 → x + 2 ^ k < 2 ^ n
 unfolding bit_at
-set_lt zero k x l h e = absurd (let z : ⊥ = omega arith in z)
+set_lt zero k x l h e = absurd (omega arith)
 set_lt (suc n) zero x l h e = omega (arith, pow-suc 2 n)
 set_lt (suc n) (suc k) x l h e =
     omega (arith, pow-suc 2 n, pow-suc 2 k, set_lt n k (x / 2) (omega arith) (omega (arith, pow-suc 2 n)) e)
@@ -190,7 +190,7 @@ and_none x y =
 
 pub trailing_lt : (n x : ℕ) → x ≢ 0 → x < 2 ^ n → count_trailing_zeros n x < n
 unfolding count_trailing_zeros
-trailing_lt zero x ne h = absurd (let z : ⊥ = omega arith in z)
+trailing_lt zero x ne h = absurd (omega arith)
 trailing_lt (suc n) x ne h = go (x % 2) refl (trailing_lt n (x / 2))
   where
     go : (b : ℕ) → x % 2 ≡ b → (x / 2 ≢ 0 → x / 2 < 2 ^ n → count_trailing_zeros n (x / 2) < n) → under b (count_trailing_zeros n (x / 2)) < suc n
@@ -199,7 +199,7 @@ trailing_lt (suc n) x ne h = go (x % 2) refl (trailing_lt n (x / 2))
 
 pub trailing_set : (n x : ℕ) → x ≢ 0 → x < 2 ^ n → bit_at (count_trailing_zeros n x) x ≡ 1
 unfolding count_trailing_zeros bit_at
-trailing_set zero x ne h = absurd (let z : ⊥ = omega arith in z)
+trailing_set zero x ne h = absurd (omega arith)
 trailing_set (suc n) x ne h = go (x % 2) refl (trailing_set n (x / 2))
   where
     go : (b : ℕ) → x % 2 ≡ b → (x / 2 ≢ 0 → x / 2 < 2 ^ n → bit_at (count_trailing_zeros n (x / 2)) (x / 2) ≡ 1) → bit_at (under b (count_trailing_zeros n (x / 2))) x ≡ 1
@@ -209,13 +209,13 @@ trailing_set (suc n) x ne h = go (x % 2) refl (trailing_set n (x / 2))
 -- the bits below it are clear
 pub trailing_clear : (n k x : ℕ) → k < count_trailing_zeros n x → bit_at k x ≡ 0
 unfolding count_trailing_zeros bit_at
-trailing_clear zero k x l = absurd (let z : ⊥ = omega arith in z)
+trailing_clear zero k x l = absurd (omega arith)
 trailing_clear (suc n) k x l = go (x % 2) k refl l (λ j. trailing_clear n j (x / 2))
   where
     go : (b k : ℕ) → x % 2 ≡ b → k < under b (count_trailing_zeros n (x / 2)) → ((j : ℕ) → j < count_trailing_zeros n (x / 2) → bit_at j (x / 2) ≡ 0) → bit_at k x ≡ 0
     go zero zero e l ih = e
     go zero (suc k) e l ih = ih k (omega arith)
-    go (suc b) k e l ih = absurd (let z : ⊥ = omega arith in z)
+    go (suc b) k e l ih = absurd (omega arith)
 
 -- ## The highest bit
 

@@ -196,7 +196,7 @@ module _ (g : Grammar) where
       lists = refl;
       climbs = λ j. tt;
       sound = λ j x n. absurd (Memᴰ.not-nil n);
-      begins = λ l. absurd (let z : ⊥ = omega arith in z);
+      begins = λ l. absurd (omega arith);
       scans = λ j e n. absurd (Memᴰ.not-nil n);
       predicts = λ j h e n. absurd (Memᴰ.not-nil n);
       completes = λ j e f n. absurd (Memᴰ.not-nil n);

@@ -26,13 +26,13 @@ climbs_lower b c [] l h = tt
 climbs_lower b c (a ∷ s) l h = (omega arith, h.1)
 
 climbs_at : (b : ℕ) (s : List ℕ) (i : ℕ) → Climbs b s → i < length s → b ≤ get_or s i 0
-climbs_at b [] i h l = absurd (let z : ⊥ = omega arith in z)
+climbs_at b [] i h l = absurd (omega arith)
 climbs_at b (a ∷ s) zero h l = h.0
 climbs_at b (a ∷ s) (suc i) h l = let k = climbs_at (suc a) s i h.1 (omega arith) in omega arith
 
 climbs_up : (b : ℕ) (s : List ℕ) (i j : ℕ) → Climbs b s → i < j → j < length s → get_or s i 0 < get_or s j 0
-climbs_up b [] i j h l k = absurd (let z : ⊥ = omega arith in z)
-climbs_up b (a ∷ s) i zero h l k = absurd (let z : ⊥ = omega arith in z)
+climbs_up b [] i j h l k = absurd (omega arith)
+climbs_up b (a ∷ s) i zero h l k = absurd (omega arith)
 climbs_up b (a ∷ s) zero (suc j) h l k = climbs_at (suc a) s j h.1 (omega arith)
 climbs_up b (a ∷ s) (suc i) (suc j) h l k = climbs_up (suc a) s i j h.1 (omega arith) (omega arith)
 
@@ -66,14 +66,14 @@ module _ {A : Type 0} (key : A → ℕ) where
       go : (x ≡ y) ⊎ Memᴰ x t → (y ≡ x) ⊎ Memᴰ y s → x ≡ y
       go (inl q) o = q
       go (inr u) (inl q) = sym q
-      go (inr u) (inr v) = absurd (let z : ⊥ = omega (arith, climbs_above (suc (key y)) t k u, climbs_above (suc (key x)) s h v) in z)
+      go (inr u) (inr v) = absurd (omega (arith, climbs_above (suc (key y)) t k u, climbs_above (suc (key x)) s h v))
 
   -- what stands behind the head of one stands behind the head of the other
   behind : {x y z : A} (s t : List A) → x ≡ y → Climbs (suc (key x)) (map key s) → Memᴰ z s → Memᴰ z (y ∷ t) → Memᴰ z t
   behind {x} {y} {z} s t e h m n = go (Memᴰ.cases_cons n)
     where
       go : (z ≡ y) ⊎ Memᴰ z t → Memᴰ z t
-      go (inl q) = absurd (let k : ⊥ = omega (arith, climbs_above (suc (key x)) s h m, ap key q, ap key e) in k)
+      go (inl q) = absurd (omega (arith, climbs_above (suc (key x)) s h m, ap key q, ap key e))
       go (inr u) = u
 
   -- two ascending lists with the same members are equal
@@ -133,7 +133,7 @@ module _ {A : Type 0} (key : A → ℕ) where
     step_longer false false ih = omega arith
 
     step_same : (b c : Bool) → length (step b c) ≡ length (y ∷ s) → (length r ≡ length s → r ≡ s) → step b c ≡ y ∷ s
-    step_same true c e ih = absurd (let z : ⊥ = omega arith in z)
+    step_same true c e ih = absurd (omega arith)
     step_same false true e ih = refl
     step_same false false e ih = ap (y ∷◌) (ih (omega arith))
 
@@ -166,7 +166,7 @@ module _ {A : Type 0} (key : A → ℕ) where
 
   insert_same : (x : A) (s : List A) → length (insert key x s) ≡ length s → insert key x s ≡ s
   unfolding insert
-  insert_same x [] e = absurd (let z : ⊥ = omega arith in z)
+  insert_same x [] e = absurd (omega arith)
   insert_same x (y ∷ s) e = step_same x y s (insert key x s) (ltb (key x) (key y)) (eqb (key x) (key y)) e (insert_same x s)
 
   -- ---- inserting many
@@ -258,7 +258,7 @@ module _ {A : Type 0} (key : A → ℕ) (consequences : List A → List A) where
         → Every (λ x. Memᴰ x (close key consequences fuel s)) (consequences (close key consequences fuel s))
     unfolding close
     close_closed zero s enough h hs =
-        absurd (let z : ⊥ = omega (arith, pigeonhole s universe (climbs_distinct key 0 s h) (λ x m. finite x (hs x m))) in z)
+        absurd (omega (arith, pigeonhole s universe (climbs_distinct key 0 s h) (λ x m. finite x (hs x m))))
     close_closed (suc fuel) s enough h hs =
         go (eqb (length (next s)) (length s)) refl (λ l. close_closed fuel (next s) l (insert_all_climbs key (consequences s) s h) (every_insert_all key P (consequences s) s (derived s hs) hs))
       where

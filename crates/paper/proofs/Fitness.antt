@@ -22,11 +22,11 @@ pub record Fit (image row : List ℕ) : Type 0 where
 -- where the first number is 0, all are
 pub first_none : (n : ℕ) (numbers : List ℕ) → first_of (n ∷ numbers) ≡ 0 → (n ≡ 0) × (first_of numbers ≡ 0)
 first_none zero numbers h = (refl, h)
-first_none (suc n) numbers h = let k : ⊥ = omega arith in absurd k
+first_none (suc n) numbers h = absurd (omega arith)
 
 -- where there is no refusal, its condition does not hold
 pub no_refusal : (n : ℕ) (holds : Bool) → refusal (suc n) holds ≡ 0 → holds ≡ false
-no_refusal n true h = let k : ⊥ = omega arith in absurd k
+no_refusal n true h = absurd (omega arith)
 no_refusal n false h = refl
 
 -- What is known of a row that is not refused.

@@ -29,11 +29,11 @@ pub record Admitted (b : List ℕ) : Type 0 where
 -- a refusal has a number, so where the number is 0 nothing is at fault
 passed : (n : ℕ) (spot : Spot) (next : Fault) → (refuse (suc n) spot next).number ≡ 0 → (spot ≡ sound) × (next.number ≡ 0)
 passed n sound next h = (refl, h)
-passed n (at k) next h = absurd (let z : ⊥ = omega arith in z)
+passed n (at k) next h = absurd (omega arith)
 
 right_is : (right : Bool) → wrong_if right ≡ sound → right ≡ true
 right_is true h = refl
-right_is false h = absurd (let z : ◌≡◌ {A = ℕ} 0 1 = cc in let k : ⊥ = omega arith in k)
+right_is false h = cc
 
 -- What `symbols_right` says.
 pub record RightSymbols (s : List ℕ) : Type 0 where
@@ -242,7 +242,7 @@ pub body_inside : (b : List ℕ) → RightContents b → (k : ℕ) → k < 3 →
 body_inside b c zero l = omega arith
 body_inside b c (suc zero) l = omega arith
 body_inside b c (suc (suc zero)) l = omega arith
-body_inside b c (suc (suc (suc k))) l = absurd (let z : ⊥ = omega arith in z)
+body_inside b c (suc (suc (suc k))) l = absurd (omega arith)
 
 -- and has the length that its entry tells
 pub body_length : (b : List ℕ) → RightContents b → (k : ℕ) → k < 3 → length (body b k) ≡ extent b k
@@ -310,5 +310,5 @@ house_means =
       start_is = refl;
       rules_are = refl;
       value_before_unit = refl;
-      no_other = λ a b h. written_cases (record { earlier = 1; later = 2 }) [] a b h (λ e f. (sym e, sym f)) (λ n. absurd (let z : ◌≡◌ {A = ℕ} 0 1 = cc in let l : ⊥ = omega arith in l));
+      no_other = λ a b h. written_cases (record { earlier = 1; later = 2 }) [] a b h (λ e f. (sym e, sym f)) (λ n. cc);
     }

@@ -24,7 +24,7 @@ module _ {A : Type 0} (p : A → Bool) where
       go : (b : Bool) → p y ≡ b → (x ≡ y) ⊎ Memᴰ x s → (Memᴰ x s → Memᴰ x (keep p s)) → Memᴰ x (cond b (y ∷ keep p s) (keep p s))
       go true e (inl q) ih = Memᴰ.head q
       go true e (inr n) ih = Memᴰ.tail (ih n)
-      go false e (inl q) ih = absurd (let z : ◌≡◌ {A = Bool} true false = sym h ∙ (ap p q ∙ e) in let k : ◌≡◌ {A = ℕ} 0 1 = cc in let n : ⊥ = omega arith in n)
+      go false e (inl q) ih = absurd (let z : ◌≡◌ {A = Bool} true false = sym h ∙ (ap p q ∙ e) in cc)
       go false e (inr n) ih = ih n
 
   pub keep_mem : {x : A} (s : List A) → Memᴰ x (keep p s) → Memᴰ x s × (p x ≡ true)
@@ -69,13 +69,13 @@ module _ {A B : Type 0} where
 
 -- what stands at a place of a list is a member of it; d stands past its end
 pub place_mem : {A : Type 0} (d : A) (s : List A) (k : ℕ) → k < length s → Memᴰ (get_or s k d) s
-place_mem d [] k l = absurd (let z : ⊥ = omega arith in z)
+place_mem d [] k l = absurd (omega arith)
 place_mem d (x ∷ s) zero l = Memᴰ.head refl
 place_mem d (x ∷ s) (suc k) l = Memᴰ.tail (place_mem d s k (omega arith))
 
 pub mem_below : (h n : ℕ) → h < n → Memᴰ h (below n)
 unfolding below
-mem_below h zero l = absurd (let z : ⊥ = omega arith in z)
+mem_below h zero l = absurd (omega arith)
 mem_below h (suc n) l = go (dec_lt h n) (λ k. mem_below h n k)
   where
     go : Dec (h < n) → (h < n → Memᴰ h (below n)) → Memᴰ h (n ∷ below n)
@@ -148,8 +148,8 @@ module _ {A : Type 0} where
       go (inr m) = apart x (Memᴰ.head refl) m
 
   pub distinct_places : (d : A) (s : List A) (i j : ℕ) → Distinct s → i < j → j < length s → get_or s i d ≡ get_or s j d → ⊥
-  distinct_places d [] i j h l k e = let z : ⊥ = omega arith in z
-  distinct_places d (x ∷ s) i zero h l k e = let z : ⊥ = omega arith in z
+  distinct_places d [] i j h l k e = omega arith
+  distinct_places d (x ∷ s) i zero h l k e = omega arith
   distinct_places d (x ∷ s) zero (suc j) h l k e = h.0 (Memᴰ.cast e (place_mem d s j (omega arith)))
   distinct_places d (x ∷ s) (suc i) (suc j) h l k e = distinct_places d s i j h.1 (omega arith) (omega arith) e
 

@@ -22,7 +22,7 @@ or_left true y h = h
 or_left false y h = refl
 
 or_right : (x y : Bool) → (x || y) ≡ false → y ≡ false
-or_right true y h = let z : ◌≡◌ {A = ℕ} 0 1 = cc in absurd (let k : ⊥ = omega arith in k)
+or_right true y h = cc
 or_right false y h = h
 
 neither : (x y : Bool) → x ≡ false → y ≡ false → (x || y) ≡ false
@@ -34,13 +34,13 @@ and_left false y h = h
 
 pub and_right : (x y : Bool) → (x && y) ≡ true → y ≡ true
 and_right true y h = h
-and_right false y h = let z : ◌≡◌ {A = ℕ} 0 1 = cc in absurd (let k : ⊥ = omega arith in k)
+and_right false y h = cc
 
 both : (x y : Bool) → x ≡ true → y ≡ true → (x && y) ≡ true
 both x y e f = rw (e, f)
 
 unlike : {x : Bool} → x ≡ true → x ≡ false → ⊥
-unlike h k = let z : ◌≡◌ {A = ℕ} 0 1 = cc in omega arith
+unlike h k = cc
 
 -- ## What stands in a list
 
@@ -57,7 +57,7 @@ has_tail a b s h = go (eqb a b)
     go false = h
 
 pub has_place : (s : List ℕ) (k : ℕ) → k < length s → has (get_or s k 0) s ≡ true
-has_place [] k h = absurd (let z : ⊥ = omega arith in z)
+has_place [] k h = absurd (omega arith)
 has_place (a ∷ s) zero h = has_head a s
 has_place (a ∷ s) (suc k) h = has_tail (get_or s k 0) a s (has_place s k (omega arith))
 
@@ -68,7 +68,7 @@ has_arranged a {s} {t} h m = count_has a t (omega (arith, h.counts a, has_count 
 
 pub unbarred_each : (g : Grammar) (a b : ℕ) (s : List ℕ) → barred g a s ≡ false → has b s ≡ true → g.precedes b a ≡ false
 unfolding barred has
-unbarred_each g a b [] h m = let z : ◌≡◌ {A = ℕ} 0 1 = cc in absurd (let k : ⊥ = omega arith in k)
+unbarred_each g a b [] h m = cc
 unbarred_each g a b (c ∷ s) h m = go (eqb b c) refl (unbarred_each g a b s (or_right (g.precedes c a) (barred g a s) h))
   where
     go : (t : Bool) → eqb b c ≡ t → (has b s ≡ true → g.precedes b a ≡ false) → g.precedes b a ≡ false
@@ -102,7 +102,7 @@ unbarred_tail g a b s = or_right (g.precedes b a) (barred g a s)
 -- ## Acceptable
 
 pub acceptable_nil : (g : Grammar) → Acceptable g []
-acceptable_nil g = record { in_order = λ i j p q. absurd (let z : ⊥ = omega arith in z) }
+acceptable_nil g = record { in_order = λ i j p q. absurd (omega arith) }
 
 pub acceptable_head : {g : Grammar} {a : ℕ} {s : List ℕ} → Acceptable g (a ∷ s) → barred g a s ≡ false
 acceptable_head {g} {a} {s} h = unbarred_places g a s (λ k p. h.in_order 0 (suc k) (omega arith) (omega arith))
@@ -115,7 +115,7 @@ pub acceptable_cons : {g : Grammar} {a : ℕ} {s : List ℕ} → barred g a s �
 acceptable_cons {g} {a} {s} f h = record { in_order = places }
   where
     places : (i j : ℕ) → i < j → j < length (a ∷ s) → g.precedes (get_or (a ∷ s) j 0) (get_or (a ∷ s) i 0) ≡ false
-    places i zero p q = absurd (let z : ⊥ = omega arith in z)
+    places i zero p q = absurd (omega arith)
     places zero (suc j) p q = unbarred_each g a (get_or s j 0) s f (has_place s j (omega arith))
     places (suc i) (suc j) p q = h.in_order i j (omega arith) (omega arith)
 

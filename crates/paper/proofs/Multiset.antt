@@ -46,7 +46,7 @@ arranged_swap s t = record { counts = λ a. omega (arith, count_append a s t, co
 
 pub has_count : (a : ℕ) (s : List ℕ) → has a s ≡ true → 1 ≤ count a s
 unfolding has count
-has_count a [] h = let z : ◌≡◌ {A = ℕ} 0 1 = cc in omega arith
+has_count a [] h = cc
 has_count a (b ∷ s) h = go (eqb a b) refl (has_count a s)
   where
     go : (t : Bool) → eqb a b ≡ t → (has a s ≡ true → 1 ≤ count a s) → 1 ≤ count a (b ∷ s)
@@ -55,7 +55,7 @@ has_count a (b ∷ s) h = go (eqb a b) refl (has_count a s)
 
 pub count_has : (a : ℕ) (s : List ℕ) → 1 ≤ count a s → has a s ≡ true
 unfolding has count
-count_has a [] h = absurd (let z : ⊥ = omega arith in z)
+count_has a [] h = absurd (omega arith)
 count_has a (b ∷ s) h = go (eqb a b) refl (count_has a s)
   where
     go : (t : Bool) → eqb a b ≡ t → (1 ≤ count a s → has a s ≡ true) → has a (b ∷ s) ≡ true
@@ -64,7 +64,7 @@ count_has a (b ∷ s) h = go (eqb a b) refl (count_has a s)
 
 pub count_without : (a b : ℕ) (s : List ℕ) → has a s ≡ true → count b (without a s) + bit (eqb b a) ≡ count b s
 unfolding has count without
-count_without a b [] h = let z : ◌≡◌ {A = ℕ} 0 1 = cc in omega arith
+count_without a b [] h = cc
 count_without a b (c ∷ s) h = go (eqb a c) refl (count_without a b s)
   where
     go : (t : Bool) → eqb a c ≡ t → (has a s ≡ true → count b (without a s) + bit (eqb b a) ≡ count b s) → count b (without a (c ∷ s)) + bit (eqb b a) ≡ count b (c ∷ s)
@@ -82,7 +82,7 @@ minus_snoc m s a = minus_append m s (a ∷ [])
 
 pub has_mem : (a : ℕ) (s : List ℕ) → has a s ≡ true → Memᴰ a s
 unfolding has
-has_mem a [] h = absurd (let z : ◌≡◌ {A = ℕ} 0 1 = cc in let k : ⊥ = omega arith in k)
+has_mem a [] h = cc
 has_mem a (b ∷ s) h = go (eqb a b) refl (has_mem a s)
   where
     go : (t : Bool) → eqb a b ≡ t → (has a s ≡ true → Memᴰ a s) → Memᴰ a (b ∷ s)
@@ -97,7 +97,7 @@ mem_has {a} (Memᴰ.tail {x = x} {xs = s} m) = rw (mem_has m) (or-true (eqb a x)
 pub arranged_nil : (s : List ℕ) → Arrangement s [] → s ≡ []
 unfolding count
 arranged_nil [] h = refl
-arranged_nil (a ∷ s) h = let z = h.counts a in absurd (let k : ⊥ = omega (arith, count_self a s) in k)
+arranged_nil (a ∷ s) h = let z = h.counts a in absurd (omega (arith, count_self a s))
 
 pub arranged_cons : (a : ℕ) {s t : List ℕ} → Arrangement s t → Arrangement (a ∷ s) (a ∷ t)
 unfolding count
@@ -110,7 +110,7 @@ arranged_without a s h = record { counts = λ b. omega (arith, count_without a b
 
 pub length_without : (a : ℕ) (s : List ℕ) → has a s ≡ true → suc (length (without a s)) ≡ length s
 unfolding has without
-length_without a [] h = let z : ◌≡◌ {A = ℕ} 0 1 = cc in omega arith
+length_without a [] h = cc
 length_without a (b ∷ s) h = go (eqb a b) refl (length_without a s)
   where
     go : (t : Bool) → eqb a b ≡ t → (has a s ≡ true → suc (length (without a s)) ≡ length s) → suc (length (without a (b ∷ s))) ≡ length (b ∷ s)

@@ -72,7 +72,7 @@ closed_at pairs a b c d e f h = rw (← e, ← f) h
 
 closed_each : (pairs : List Pair) (k : ℕ) (more : List Pair) → closing_fault pairs k more ≡ sound → (a b : ℕ) → paired more a b ≡ true → Closed pairs a b
 unfolding paired
-closed_each pairs k [] h a b w = absurd (let z : ◌≡◌ {A = ℕ} 0 1 = cc in let l : ⊥ = omega arith in l)
+closed_each pairs k [] h a b w = cc
 closed_each pairs k (p ∷ more) h a b w =
     let e = closing_goes_on pairs k p more h in
     written_cases p more a b w (λ x y. closed_at pairs a b p.earlier p.later x y e.0) (closed_each pairs (suc k) more e.1 a b)
@@ -80,7 +80,7 @@ closed_each pairs k (p ∷ more) h a b w =
 -- the closing pair of a chain is written
 closing : (pairs : List Pair) (a b : ℕ) (more : List Pair) → chained pairs a b more ≡ true → (c : ℕ) → paired more b c ≡ true → paired pairs a c ≡ true
 unfolding paired chained
-closing pairs a b [] h c w = absurd (let z : ◌≡◌ {A = ℕ} 0 1 = cc in let l : ⊥ = omega arith in l)
+closing pairs a b [] h c w = cc
 closing pairs a b (q ∷ more) h c w = written_cases q more b c w here (closing pairs a b more t.1 c)
   where
     t : ((not (eqb q.earlier b) || paired pairs a q.later) ≡ true) × (chained pairs a b more ≡ true)
@@ -113,8 +113,8 @@ pair_further a b s k =
 -- pair k is bytes 2k and 2k+1
 pub pair_at : (s : List ℕ) (k : ℕ) (none : Pair) → k < length (pairs_of s) → get_or (pairs_of s) k none ≡ record { earlier = byte s (2 * k); later = byte s (2 * k + 1) }
 unfolding pairs_of
-pair_at [] k none l = absurd (let z : ⊥ = omega arith in z)
-pair_at (a ∷ []) k none l = absurd (let z : ⊥ = omega arith in z)
+pair_at [] k none l = absurd (omega arith)
+pair_at (a ∷ []) k none l = absurd (omega arith)
 pair_at (a ∷ b ∷ s) zero none l = refl
 pair_at (a ∷ b ∷ s) (suc k) none l = pair_at s k none (omega arith) ∙ pair_further a b s k
 
@@ -139,9 +139,9 @@ unfolding pairs_of paired
 pairs_none symbols least =
     record {
       size = refl;
-      below = λ a b w. absurd (let z : ◌≡◌ {A = ℕ} 0 1 = cc in let l : ⊥ = omega arith in l);
-      least_is = λ k l. absurd (let z : ⊥ = omega arith in z);
-      ascending = record { ascend = λ i j l m. absurd (let z : ⊥ = omega arith in z) };
+      below = λ a b w. cc;
+      least_is = λ k l. absurd (omega arith);
+      ascending = record { ascend = λ i j l m. absurd (omega arith) };
     }
 
 pairs_step : (symbols least a b : ℕ) (s : List ℕ) → a < symbols → b < symbols → least ≤ a * 256 + b → RightPairs symbols (suc (a * 256 + b)) s
@@ -160,7 +160,7 @@ pairs_step symbols least a b s p q f ih =
     from (suc k) l = omega (arith, ih.least_is k (omega arith))
 
     up : (i j : ℕ) → i < j → j < length (map pair_key (pairs_of (a ∷ b ∷ s))) → get_or (map pair_key (pairs_of (a ∷ b ∷ s))) i 0 < get_or (map pair_key (pairs_of (a ∷ b ∷ s))) j 0
-    up i zero l m = absurd (let z : ⊥ = omega arith in z)
+    up i zero l m = absurd (omega arith)
     up zero (suc j) l m = ih.least_is j (omega (arith, length-map (pairs_of s) pair_key))
     up (suc i) (suc j) l m = ih.ascending.ascend i j (omega arith) (omega arith)
 
@@ -168,7 +168,7 @@ pairs_step symbols least a b s p q f ih =
 pub pairs_right : (symbols k least : ℕ) (s : List ℕ) → pair_fault symbols k least s ≡ sound → RightPairs symbols least s
 unfolding pair_fault
 pairs_right symbols k least [] h = pairs_none symbols least
-pairs_right symbols k least (a ∷ []) h = absurd (let z : ◌≡◌ {A = ℕ} 0 1 = cc in let l : ⊥ = omega arith in l)
+pairs_right symbols k least (a ∷ []) h = cc
 pairs_right symbols k least (a ∷ b ∷ s) h =
     let e = pair_goes_on symbols k least a b s h in
     pairs_step symbols least a b s e.0 e.1 e.2 (pairs_right symbols (suc k) (suc (a * 256 + b)) s e.3)
@@ -183,7 +183,7 @@ pairs_left : (symbols k c d : ℕ) (s : List ℕ) → symbols ≤ 64 → c < sym
     → length (pairs_of s) + (c * 64 + d) < 4096
 unfolding pairs_of pair_fault
 pairs_left symbols k c d [] few l m h = omega arith
-pairs_left symbols k c d (a ∷ []) few l m h = absurd (let z : ◌≡◌ {A = ℕ} 0 1 = cc in let l : ⊥ = omega arith in l)
+pairs_left symbols k c d (a ∷ []) few l m h = cc
 pairs_left symbols k c d (a ∷ b ∷ s) few l m h =
     let e = pair_goes_on symbols k (suc (c * 256 + d)) a b s h in
     omega (arith, ranks_ascend a b c d (omega arith) (omega arith) e.2, pairs_left symbols (suc k) a b s few e.0 e.1 e.3)

@@ -55,8 +55,8 @@ module _ {g : Grammar} {row : List ℕ} where
 
   start_looked_for : (u : List ℕ) (a : ℕ) (v : List ℕ) (i : ℕ) → g.start ∷ [] ≡ u ++ (a ∷ v) → Parts g row u 0 i → Sought g row a i
   start_looked_for [] a v i e (done h) = let z : a ≡ g.start = cc in rw z top
-  start_looked_for (c ∷ []) a v i e p = absurd (let z : ◌≡◌ {A = ℕ} 0 1 = cc in let k : ⊥ = omega arith in k)
-  start_looked_for (c ∷ d ∷ u) a v i e p = absurd (let z : ◌≡◌ {A = ℕ} 0 1 = cc in let k : ⊥ = omega arith in k)
+  start_looked_for (c ∷ []) a v i e p = cc
+  start_looked_for (c ∷ d ∷ u) a v i e p = cc
 
   -- After a step a symbol stands in front of what was put in, in it, or behind it.
   looked_for_in_front : {w t u v : List ℕ} {a i : ℕ} (x : Step g w t) → Front g row w → InFirst x.before (x.sequence ++ x.behind) u a v → Parts g row u 0 i → Sought g row a i

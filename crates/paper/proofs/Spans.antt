@@ -108,7 +108,7 @@ record Topped (spans : List Span) (i j : ℕ) : Type 0 where
 
 -- it is among them already, or there is room for it
 topped : {spans : List Span} {i j : ℕ} → Few spans i j → Topped spans i j
-topped {spans} (Few.empty e z) = record { wider = spans; few = Few.empty e z; kept = λ x at. at; top = λ h. absurd (let z : ⊥ = omega arith in z) }
+topped {spans} (Few.empty e z) = record { wider = spans; few = Few.empty e z; kept = λ x at. at; top = λ h. absurd (omega arith) }
 topped {spans} (Few.full l at) = record { wider = spans; few = Few.full l at; kept = λ x at'. at'; top = λ h. at }
 topped {spans} {i} {j} (Few.spare l) =
     record {
@@ -120,7 +120,7 @@ topped {spans} {i} {j} (Few.spare l) =
 
 -- a number other than 0 that is read from a list stands in it
 get_or_mem : (s : List ℕ) (x m : ℕ) → get_or s x 0 ≡ suc m → Memᴰ (suc m) s
-get_or_mem [] x m e = absurd (let z : ⊥ = omega arith in z)
+get_or_mem [] x m e = absurd (omega arith)
 get_or_mem (a ∷ s) zero m e = Memᴰ.head (sym e)
 get_or_mem (a ∷ s) (suc x) m e = Memᴰ.tail (get_or_mem s x m e)
 
@@ -236,7 +236,7 @@ length_nodes_over first (suc more) spans =
 
 nodes_over_all : (first many a : ℕ) (spans : List Span) {x : Span} → first ≤ a → a < first + many → Memᴰ x spans → Memᴰ (node a x) (nodes_over first many spans)
 unfolding nodes_over
-nodes_over_all first zero a spans low high at = absurd (let z : ⊥ = omega arith in z)
+nodes_over_all first zero a spans low high at = absurd (omega arith)
 nodes_over_all first (suc more) a spans {x} low high at = go (eqb a (first + more)) refl (λ h. nodes_over_all first more a spans low h at)
   where
     go : (t : Bool) → eqb a (first + more) ≡ t → (a < first + more → Memᴰ (node a x) (nodes_over first more spans)) → Memᴰ (node a x) (nodes_over first (suc more) spans)

@@ -115,8 +115,8 @@ listed_same (a ∷ s) {r} {t} m n h = go (listed_cases a s m) (listed_cases a s 
   where
     go : Listed r s ⊎ Present a s r → Listed t s ⊎ Present a s t → ((p q : List ℕ) → Listed p s → Listed q s → Arrangement p q → p ≡ q) → r ≡ t
     go (inl u) (inl v) ih = ih r t u v h
-    go (inl u) (inr y) ih = absurd (let z : ⊥ = omega (arith, listed_count a s u, h.counts a, ap (count a) y.r_is, count_self a y.q) in z)
-    go (inr x) (inl v) ih = absurd (let z : ⊥ = omega (arith, listed_count a s v, h.counts a, ap (count a) x.r_is, count_self a x.q) in z)
+    go (inl u) (inr y) ih = absurd (omega (arith, listed_count a s u, h.counts a, ap (count a) y.r_is, count_self a y.q))
+    go (inr x) (inl v) ih = absurd (omega (arith, listed_count a s v, h.counts a, ap (count a) x.r_is, count_self a x.q))
     go (inr x) (inr y) ih =
         let k : Arrangement (a ∷ x.q) (a ∷ y.q) = rw (← x.r_is, ← y.r_is) h in
         x.r_is ∙ (ap (a ∷◌) (ih x.q y.q x.listed y.listed (arranged_uncons a x.q y.q k)) ∙ sym y.r_is)

@@ -90,7 +90,7 @@ module _ {A : Type 0} (p : A → Bool) where
   -- and what is counted is there
   pub many_mem : (s : List A) → 1 ≤ many p s → (x : A) × Memᴰ x s × (p x ≡ true)
   unfolding sum
-  many_mem [] h = absurd (let z : ⊥ = omega arith in z)
+  many_mem [] h = absurd (omega arith)
   many_mem (y ∷ s) h = go (p y) refl h (many_mem s)
     where
       go : (b : Bool) → p y ≡ b → 1 ≤ bit b + many p s → (1 ≤ many p s → (x : A) × Memᴰ x s × (p x ≡ true)) → (x : A) × Memᴰ x (y ∷ s) × (p x ≡ true)

@@ -81,7 +81,7 @@ module _ {g : Grammar} {row : List ℕ} where
 
   -- a tree of the row as the start symbol has a top: the start symbol is no token
   tree_top : IsGrammar g → IsRow g row → {a i j : ℕ} → Tree g row a i j → a ≡ g.start → i ≡ 0 → j ≡ length row → (e : Entry) × Stands g row (length row) e × (is_top g e ≡ true)
-  tree_top is is_row (Tree.token {i = i} l e) p q r = absurd (let z : ⊥ = omega (arith, is.start_is.above, (is_row.tokens_are i l).below) in z)
+  tree_top is is_row (Tree.token {i = i} l e) p q r = absurd (omega (arith, is.start_is.above, (is_row.tokens_are i l).below))
   tree_top is is_row (Tree.node {s = s} h l e a c parts) p q r =
       (entry h 0 [], whole_stands h l (e ∙ p) a c (subst₂ (Parts g row s) q r parts), top_is g h (e ∙ p))
 

@@ -38,7 +38,7 @@ finished_rest e h = empty e.rest (eqb-true (length e.rest) 0 h)
   where
     empty : (s : List ℕ) → length s ≡ 0 → s ≡ []
     empty [] z = refl
-    empty (a ∷ s) z = absurd (let k : ⊥ = omega arith in k)
+    empty (a ∷ s) z = absurd (omega arith)
 
 pub rest_finished : (e : Entry) → e.rest ≡ [] → finished e ≡ true
 unfolding finished

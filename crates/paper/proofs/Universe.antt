@@ -91,7 +91,7 @@ universe_size g j = length_with_rules 0 (suc j) g.rules
 
 pub with_origins_has : (h i : ℕ) {r : List ℕ} (listed : List (List ℕ)) (n : ℕ) → i < n → Memᴰ r listed → Memᴰ (entry h i r) (with_origins h listed n)
 unfolding with_origins
-with_origins_has h i listed zero l m = absurd (let z : ⊥ = omega arith in z)
+with_origins_has h i listed zero l m = absurd (omega arith)
 with_origins_has h i {r} listed (suc n) l m = go (dec_lt i n) (λ k. with_origins_has h i listed n k m)
   where
     go : Dec (i < n) → (i < n → Memᴰ (entry h i r) (with_origins h listed n)) → Memᴰ (entry h i r) (map (entry h n) listed ++ with_origins h listed n)
@@ -101,7 +101,7 @@ with_origins_has h i {r} listed (suc n) l m = go (dec_lt i n) (λ k. with_origin
 with_rules_has : (h k i n : ℕ) {r : List ℕ} (rules : List Rule) → k < length rules → i < n → Memᴰ r (sub_multisets (get_or rules k (record { left = 0; members = [] })).members)
     → Memᴰ (entry (h + k) i r) (with_rules h n rules)
 unfolding with_rules
-with_rules_has h k i n [] l j m = absurd (let z : ⊥ = omega arith in z)
+with_rules_has h k i n [] l j m = absurd (omega arith)
 with_rules_has h zero i n {r} (q ∷ rules) l j m =
     let e : h + 0 ≡ h = omega arith in
     Memᴰ.append_left (with_rules (suc h) n rules) (Memᴰ.cast (ap (λ x. entry x i r) e) (with_origins_has h i (sub_multisets q.members) n j m))

@@ -44,7 +44,7 @@ record Growth (g : Grammar) (row : List ℕ) (f : ℕ) (before : List ℕ) (n : 
 
 -- nothing is added
 no_growth : {g : Grammar} {row ns : List ℕ} {n f : ℕ} → Table g row ns n → Growth g row f ns n ns n
-no_growth {ns = ns} t = record { more = omega arith; extends = extends_refl ns; table = t; trees = λ k b c. absurd (let z : ⊥ = omega arith in z) }
+no_growth {ns = ns} t = record { more = omega arith; extends = extends_refl ns; table = t; trees = λ k b c. absurd (omega arith) }
 
 -- a bound on heights may be raised
 higher : {g : Grammar} {row : List ℕ} {f a i j : ℕ} → LowTree g row f a i j → LowTree g row (suc f) a i j
@@ -119,8 +119,8 @@ unwritten {ns = ns} {n = n} {slot = slot} t h = record {
   growth = no_growth t;
   slot = slot;
   held = h;
-  last = λ b. absurd (let z : ⊥ = omega arith in z);
-  used = λ k b c. absurd (let z : ⊥ = omega arith in z);
+  last = λ b. absurd (omega arith);
+  used = λ k b c. absurd (omega arith);
 }
 
 -- a slot in front moves the others by one place
@@ -151,7 +151,7 @@ part_then {n = n} is w v = record {
 -- no parts, no slots
 no_parts : {g : Grammar} {row ns : List ℕ} {f n i : ℕ} → Table g row ns n → PartsWritten g row f ns n [] i i
 no_parts {ns = ns} {n = n} t =
-    record { after = ns; count = n; growth = no_growth t; slots = []; joins = Joins.end; used = λ k b c. absurd (let z : ⊥ = omega arith in z) }
+    record { after = ns; count = n; growth = no_growth t; slots = []; joins = Joins.end; used = λ k b c. absurd (omega arith) }
 
 -- A row of parts can be written if each part can.
 write_parts : {g : Grammar} {row : List ℕ} {f i j : ℕ} {s : List ℕ} → IsGrammar g → Writes g row f → (parts : Parts g row s i j) → heights parts ≤ f
@@ -242,7 +242,7 @@ write_step is writes ns n t a i j (Tree.node h b e arranged acceptable parts) lo
 -- a tree of height 0 is a token, and needs no line
 write_token : {g : Grammar} {row : List ℕ} → Writes g row 0
 write_token ns n t a i j (Tree.token b e) low = unwritten t (Held.token b e)
-write_token ns n t a i j (Tree.node h b e arranged acceptable parts) low = absurd (let z : ⊥ = omega arith in z)
+write_token ns n t a i j (Tree.node h b e arranged acceptable parts) low = absurd (omega arith)
 
 -- Every tree can be written behind any table.
 write : {g : Grammar} {row : List ℕ} → IsGrammar g → (f : ℕ) → Writes g row f
@@ -252,7 +252,7 @@ write is (suc f) = write_step is (write is f)
 -- no token is a nonterminal, so a nonterminal is held by a line
 held_line : {g : Grammar} {row ns : List ℕ} {n slot a i j : ℕ} → IsRow g row → g.terminals ≤ a → Held g row ns n slot a i j
     → (l : HasLine g ns n a i j) × (slot ≡ suc l.line)
-held_line tokens b (Held.token {i = i} h e) = absurd (let c = (tokens.tokens_are i h).below in let z : ⊥ = omega arith in z)
+held_line tokens b (Held.token {i = i} h e) = absurd (let c = (tokens.tokens_are i h).below in omega arith)
 held_line tokens b (Held.line l) = (l, refl)
 
 -- The start symbol written over the whole row into the empty table gives valid lines.
@@ -280,7 +280,7 @@ valid {g} {row} {f} is tokens w =
 
 -- the table to begin with
 empty_table : {g : Grammar} {row : List ℕ} → Table g row [] 0
-empty_table = record { whole = omega arith; right = λ k b. absurd (let z : ⊥ = omega arith in z) }
+empty_table = record { whole = omega arith; right = λ k b. absurd (omega arith) }
 
 -- Every row that has a tree has valid lines.
 pub lines_exist : {g : Grammar} {row : List ℕ} → IsGrammar g → IsRow g row → Tree g row g.start 0 (length row) → (ns : List ℕ) × Valid g row ns

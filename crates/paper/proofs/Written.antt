@@ -31,7 +31,7 @@ symbols_written s e = bytes_from_lem 3 0 s (omega arith) ∙ rw (drop_of_length-
 
 nil_of_length : (r : List ℕ) → length r ≡ 0 → [] ≡ r
 nil_of_length [] e = refl
-nil_of_length (a ∷ r) e = absurd (let z : ⊥ = omega arith in z)
+nil_of_length (a ∷ r) e = absurd (omega arith)
 
 record_written : (terminals symbols more : ℕ) (last r : List ℕ) → RightRecords terminals symbols (suc more) last r
     → (rest : List ℕ) → rest ≡ drop (record_size r) r → rule_bytes (rule_of r) ++ rest ≡ r
@@ -55,7 +55,7 @@ rules_written terminals symbols r right =
 order_written : (p : List ℕ) → length p ≡ 2 * length (pairs_of p) → p ≡ order_body (pairs_of p)
 unfolding pairs_of order_body
 order_written [] e = refl
-order_written (a ∷ []) e = absurd (let z : ⊥ = omega arith in z)
+order_written (a ∷ []) e = absurd (omega arith)
 order_written (a ∷ b ∷ p) e = ap {B = List ℕ} (λ s. a ∷ b ∷ s) (order_written p (omega arith))
 
 -- The contents.

@@ -38,7 +38,7 @@ others b n = omega (arith, bit_le b)
 
 bit_true : (b : Bool) → bit b ≡ 1 → b ≡ true
 bit_true true e = refl
-bit_true false e = absurd (let z : ⊥ = omega arith in z)
+bit_true false e = absurd (omega arith)
 
 -- ## The rest that a byte tells
 
@@ -48,12 +48,12 @@ rest_odd a s m e = rw (eq-eqb (m % 2) 1 e)
 
 rest_even : (a : ℕ) (s : List ℕ) (m : ℕ) → m % 2 ≡ 0 → rest_of (a ∷ s) m ≡ rest_of s (m / 2)
 unfolding rest_of
-rest_even a s m e = rw (ne_eqb (m % 2) 1 (λ f. let z : ⊥ = omega arith in z))
+rest_even a s m e = rw (ne_eqb (m % 2) 1 (λ f. omega arith))
 
 -- a member whose bit is set is in it
 pub rest_has : (s : List ℕ) (m k : ℕ) → k < length s → bit_at k m ≡ 1 → has (get_or s k 0) (rest_of s m) ≡ true
 unfolding bit_at
-rest_has [] m k l e = absurd (let z : ⊥ = omega arith in z)
+rest_has [] m k l e = absurd (omega arith)
 rest_has (a ∷ s) m zero l e = rw (rest_odd a s m e) (has_head a (rest_of s (m / 2)))
 rest_has (a ∷ s) m (suc k) l e = go (bit_cases 0 m) (rest_has s (m / 2) k (omega arith) e)
   where
@@ -70,7 +70,7 @@ record FirstLeft (s : List ℕ) (m a k : ℕ) : Type 0 where
 
 first_head : (s : List ℕ) (m a : ℕ) → m % 2 ≡ 1 → FirstLeft (a ∷ s) m a 0
 unfolding bit_at
-first_head s m a e = record { place = omega arith; member = refl; is_left = e; earlier = λ j l. absurd (let z : ⊥ = omega arith in z) }
+first_head s m a e = record { place = omega arith; member = refl; is_left = e; earlier = λ j l. absurd (omega arith) }
 
 first_tail : (s : List ℕ) (b m a k : ℕ) → (b ≡ a → m % 2 ≡ 0) → FirstLeft s (m / 2) a k → FirstLeft (b ∷ s) m a (suc k)
 unfolding bit_at
@@ -83,7 +83,7 @@ first_tail s b m a k f h = record { place = omega (arith, h.place); member = h.m
 -- a symbol in it has a member whose bit is set, and so a first one
 rest_first : (s : List ℕ) (m a : ℕ) → has a (rest_of s m) ≡ true → (k : ℕ) × FirstLeft s m a k
 unfolding rest_of has bit_at
-rest_first [] m a h = absurd (let z : ◌≡◌ {A = ℕ} 0 1 = cc in let k : ⊥ = omega arith in k)
+rest_first [] m a h = cc
 rest_first (b ∷ s) m a h = go (bit_cases 0 m) (ℕ_discrete b a) (rest_first s (m / 2) a)
   where
     front : (b ≡ a) → (m % 2 ≡ 1) → (k : ℕ) × FirstLeft (b ∷ s) m a k
@@ -108,7 +108,7 @@ rest_every a (b ∷ s) m f = go (bit_cases 0 m) (rest_every a s (m / 2) (λ j l.
   where
     go : (bit_at 0 m ≡ 0) ⊎ (bit_at 0 m ≡ 1) → count a (rest_of s (m / 2)) ≡ count a s → count a (rest_of (b ∷ s) m) ≡ count a (b ∷ s)
     go (inl e) ih =
-        rw (rest_even b s m e) (ih ∙ sym (count_other a b s (λ p. let q = f 0 (omega arith) (sym p) in let z : ⊥ = omega arith in z)))
+        rw (rest_even b s m e) (ih ∙ sym (count_other a b s (λ p. let q = f 0 (omega arith) (sym p) in omega arith)))
     go (inr e) ih = rw (rest_odd b s m e) (ap (bit (eqb a b) +◌) ih)
 
 -- ## Proper bytes
@@ -143,7 +143,7 @@ mask_rest_of {s} {m} p = (listed_mask s m p).1
 
 mask_bit : (s rest : List ℕ) (k : ℕ) → k < length s → bit_at k (mask s rest) ≡ bit (leb (count (get_or s k 0) (drop k s)) (count (get_or s k 0) rest))
 unfolding bit_at mask
-mask_bit [] rest k l = absurd (let z : ⊥ = omega arith in z)
+mask_bit [] rest k l = absurd (omega arith)
 mask_bit (a ∷ s) rest zero l = lowest (leb (count a (a ∷ s)) (count a rest)) (mask s rest)
 mask_bit (a ∷ s) rest (suc k) l = ap (bit_at k) (others (leb (count a (a ∷ s)) (count a rest)) (mask s rest)) ∙ mask_bit s rest k (omega arith)
 
@@ -155,7 +155,7 @@ count_drop_tail a b (c ∷ s) (suc j) = omega (arith, count_drop_tail a c s j)
 
 count_drop : (a : ℕ) (s : List ℕ) (i j : ℕ) → i < j → count a (drop j s) ≤ count a (drop i s)
 unfolding count
-count_drop a s i zero l = absurd (let z : ⊥ = omega arith in z)
+count_drop a s i zero l = absurd (omega arith)
 count_drop a [] zero (suc j) l = omega arith
 count_drop a [] (suc i) (suc j) l = omega arith
 count_drop a (b ∷ s) zero (suc j) l = count_drop_tail a b s j
@@ -226,7 +226,7 @@ rest_nil {s} {m} p = (λ e. empty (rest_of s m) (rest_length p ∙ (zero_ones m)
   where
     empty : (r : List ℕ) → length r ≡ 0 → r ≡ []
     empty [] e = refl
-    empty (a ∷ r) e = absurd (let z : ⊥ = omega arith in z)
+    empty (a ∷ r) e = absurd (omega arith)
 
 -- ## The byte of a fresh entry
 
@@ -251,7 +251,7 @@ bars_below g a k x (b ∷ s) =
 
 bars_bit : (g : Grammar) (a k x : ℕ) (s : List ℕ) (j : ℕ) → j < length s → bit_at j (bar_bits g a k x s) ≡ bit (g.precedes (get_or s j 0) a || (ltb (x + j) k && eqb (get_or s j 0) a))
 unfolding bit_at bar_bits
-bars_bit g a k x [] j l = absurd (let z : ⊥ = omega arith in z)
+bars_bit g a k x [] j l = absurd (omega arith)
 bars_bit g a k x (b ∷ s) zero l =
     let e : x + 0 ≡ x = omega arith in
     lowest (g.precedes b a || (ltb x k && eqb b a)) (bar_bits g a k (suc x) s) ∙ ap (λ y. bit (g.precedes b a || (ltb y k && eqb b a))) (sym e)
@@ -263,8 +263,8 @@ bars_bit g a k x (b ∷ s) (suc j) l =
 barring : (x y z : Bool) → bit (x || (y && z)) ≡ 1 → (x ≡ true) ⊎ ((y ≡ true) × (z ≡ true))
 barring true y z e = inl refl
 barring false true true e = inr (refl, refl)
-barring false true false e = absurd (let z : ⊥ = omega arith in z)
-barring false false z e = absurd (let z : ⊥ = omega arith in z)
+barring false true false e = absurd (omega arith)
+barring false false z e = absurd (omega arith)
 
 barring_equal : (x : Bool) → bit (x || (true && true)) ≡ 1
 barring_equal true = refl
@@ -321,8 +321,7 @@ first_unbarred g s m a k u f = (and_none m (bars_of g s k)).1 (λ j e h. let l =
     go : (j : ℕ) → j < length s → bit_at j m ≡ 1 → (g.precedes (get_or s j 0) (get_or s k 0) ≡ true) ⊎ ((j < k) × (get_or s j 0 ≡ get_or s k 0)) → ⊥
     go j l e (inl p) =
         let q : g.precedes (get_or s j 0) (get_or s k 0) ≡ false = rw f.member (unbarred_each g a (get_or s j 0) (rest_of s m) u (rest_has s m j l e)) in
-        let z : ◌≡◌ {A = ℕ} 0 1 = cc in
-        omega arith
+        cc
     go j l e (inr (h, p)) = omega (arith, f.earlier j h (p ∙ f.member))
 
 -- and a symbol that may be taken is a member that may be taken
@@ -337,8 +336,8 @@ pub may_once : {g : Grammar} {s : List ℕ} {m k j : ℕ} → Takeable g s m k �
 may_once {g} {s} {m} {k} {j} t u e = go (dec_lt k j) (dec_lt j k)
   where
     go : Dec (k < j) → Dec (j < k) → k ≡ j
-    go (yes l) d = absurd (let z : ⊥ = omega (arith, takeable_first u k l e, t.is_left) in z)
-    go (no n) (yes l) = absurd (let z : ⊥ = omega (arith, takeable_first t j l (sym e), u.is_left) in z)
+    go (yes l) d = absurd (omega (arith, takeable_first u k l e, t.is_left))
+    go (no n) (yes l) = absurd (omega (arith, takeable_first t j l (sym e), u.is_left))
     go (no n) (no l) = omega arith
 
 -- a symbol that no member which may be taken is may not be taken
@@ -361,7 +360,7 @@ without_other a b r ne = rw (ne_eqb a b ne)
 rest_clear : (s : List ℕ) (m k : ℕ) → k < length s → bit_at k m ≡ 1 → ((j : ℕ) → j < k → get_or s j 0 ≡ get_or s k 0 → bit_at j m ≡ 0)
     → rest_of s (m - 2 ^ k) ≡ without (get_or s k 0) (rest_of s m)
 unfolding bit_at
-rest_clear [] m k l e f = absurd (let z : ⊥ = omega arith in z)
+rest_clear [] m k l e f = absurd (omega arith)
 rest_clear (a ∷ s) m zero l e f =
     let h : (m - 1) / 2 ≡ m / 2 = omega arith in
     rest_even a s (m - 1) (omega arith) ∙ (ap (rest_of s) h ∙ sym (ap (without a) (rest_odd a s m e) ∙ without_head a (rest_of s (m / 2))))
@@ -379,7 +378,7 @@ rest_clear (a ∷ s) m (suc k) l e f = go (bit_cases 0 m) (rest_clear s (m / 2) 
         ∙ (ap (λ n. a ∷ rest_of s n) (sub_half k m)
         ∙ (ap (a ∷◌) ih
         ∙ sym (ap (without (get_or s k 0)) (rest_odd a s m h)
-        ∙ without_other (get_or s k 0) a (rest_of s (m / 2)) (λ p. let q = f 0 (omega arith) (sym p) in let z : ⊥ = omega arith in z))))
+        ∙ without_other (get_or s k 0) a (rest_of s (m / 2)) (λ p. let q = f 0 (omega arith) (sym p) in omega arith))))
 
 -- the byte with member k taken tells the rest with that symbol taken
 pub take_rest : {g : Grammar} {s : List ℕ} {m k : ℕ} → Takeable g s m k → rest_of s (m - 2 ^ k) ≡ without (get_or s k 0) (rest_of s m)
@@ -390,9 +389,9 @@ pub take_proper : {g : Grammar} {s : List ℕ} {m k : ℕ} → Proper s m → Ta
 take_proper {g} {s} {m} {k} p t = record { below = omega (arith, p.below); later = places }
   where
     go : (i j : ℕ) → i < j → j < length s → get_or s i 0 ≡ get_or s j 0 → bit_at i (m - 2 ^ k) ≡ 1 → Dec (i ≡ k) → Dec (j ≡ k) → bit_at j (m - 2 ^ k) ≡ 1
-    go i j l h e f (yes x) d = absurd (let z : ⊥ = omega (arith, ap (λ n. bit_at n (m - 2 ^ k)) x, clear_here k m t.is_left) in z)
+    go i j l h e f (yes x) d = absurd (omega (arith, ap (λ n. bit_at n (m - 2 ^ k)) x, clear_here k m t.is_left))
     go i j l h e f (no x) (yes y) =
-        absurd (let z : ⊥ = omega (arith, clear_other k i m t.is_left x, takeable_first t i (omega arith) (e ∙ ap (λ n. get_or s n 0) y)) in z)
+        absurd (omega (arith, clear_other k i m t.is_left x, takeable_first t i (omega arith) (e ∙ ap (λ n. get_or s n 0) y)))
     go i j l h e f (no x) (no y) = clear_other k j m t.is_left y ∙ p.later i j l h e (sym (clear_other k i m t.is_left x) ∙ f)
 
     places : (i j : ℕ) → i < j → j < length s → get_or s i 0 ≡ get_or s j 0 → bit_at i (m - 2 ^ k) ≡ 1 → bit_at j (m - 2 ^ k) ≡ 1
@@ -409,8 +408,8 @@ pub last_once : {s : List ℕ} {m a k j : ℕ} → LastFound s m a k → LastFou
 last_once {s} {m} {a} {k} {j} x y = go (dec_lt k j) (dec_lt j k)
   where
     go : Dec (k < j) → Dec (j < k) → k ≡ j
-    go (yes l) d = absurd (let z : ⊥ = omega (arith, x.later j l y.place y.member, y.is_found) in z)
-    go (no n) (yes l) = absurd (let z : ⊥ = omega (arith, y.later k l x.place x.member, x.is_found) in z)
+    go (yes l) d = absurd (omega (arith, x.later j l y.place y.member, y.is_found))
+    go (no n) (yes l) = absurd (omega (arith, y.later k l x.place x.member, x.is_found))
     go (no n) (no l) = omega arith
 
 last_tail : (s : List ℕ) (b m a k : ℕ) → LastFound s (m / 2) a k → LastFound (b ∷ s) m a (suc k)
@@ -418,20 +417,20 @@ unfolding bit_at
 last_tail s b m a k x = record { place = omega (arith, x.place); member = x.member; is_found = x.is_found; later = places }
   where
     places : (j : ℕ) → suc k < j → j < length (b ∷ s) → get_or (b ∷ s) j 0 ≡ a → bit_at j m ≡ 1
-    places zero l h e = absurd (let z : ⊥ = omega arith in z)
+    places zero l h e = absurd (omega arith)
     places (suc j) l h e = x.later j (omega arith) (omega arith) e
 
 -- there is one, or every member equal to a is left
 pub last_found : (s : List ℕ) (m a : ℕ) → ((k : ℕ) × LastFound s m a k) ⊎ ((k : ℕ) → k < length s → get_or s k 0 ≡ a → bit_at k m ≡ 1)
 unfolding bit_at
-last_found [] m a = inr (λ k l e. absurd (let z : ⊥ = omega arith in z))
+last_found [] m a = inr (λ k l e. absurd (omega arith))
 last_found (b ∷ s) m a = go (last_found s (m / 2) a) (bit_cases 0 m) (ℕ_discrete b a)
   where
     heres : ((k : ℕ) → k < length s → get_or s k 0 ≡ a → bit_at k (m / 2) ≡ 1) → b ≡ a → m % 2 ≡ 0 → LastFound (b ∷ s) m a 0
     heres f e h = record { place = omega arith; member = e; is_found = h; later = places }
       where
         places : (j : ℕ) → 0 < j → j < length (b ∷ s) → get_or (b ∷ s) j 0 ≡ a → bit_at j m ≡ 1
-        places zero l i e = absurd (let z : ⊥ = omega arith in z)
+        places zero l i e = absurd (omega arith)
         places (suc j) l i e = f j (omega arith) e
 
     all : ((k : ℕ) → k < length s → get_or s k 0 ≡ a → bit_at k (m / 2) ≡ 1) → (b ≡ a → m % 2 ≡ 1) → (k : ℕ) → k < length (b ∷ s) → get_or (b ∷ s) k 0 ≡ a → bit_at k m ≡ 1
@@ -451,7 +450,7 @@ back_earlier {s} {m} {a} {k} p x j l e = set_other k j m x.is_found (omega arith
   where
     go : (bit_at j m ≡ 0) ⊎ (bit_at j m ≡ 1) → bit_at j m ≡ 0
     go (inl f) = f
-    go (inr f) = absurd (let z : ⊥ = omega (arith, p.later j k l x.place e f, x.is_found) in z)
+    go (inr f) = absurd (omega (arith, p.later j k l x.place e f, x.is_found))
 
 -- putting the last found member back makes a proper byte
 pub back_proper : {s : List ℕ} {m a k : ℕ} → Proper s m → LastFound s m a k → Proper s (m + 2 ^ k)
@@ -495,8 +494,8 @@ pub back_may : (g : Grammar) {s : List ℕ} {m a k : ℕ} → Proper s m → Las
 back_may g {s} {m} {a} {k} p x = (λ h. there (may_back g s (m + 2 ^ k) a h), λ u. rw (← x.member) (may (back_takeable {g = g} x u)))
   where
     go : (j : ℕ) → Takeable g s (m + 2 ^ k) j → get_or s j 0 ≡ get_or s k 0 → Dec (j < k) → Dec (k < j) → j ≡ k
-    go j t e (yes l) d = absurd (let z : ⊥ = omega (arith, back_earlier p x j l e, t.is_left) in z)
-    go j t e (no n) (yes l) = absurd (let z : ⊥ = omega (arith, takeable_first t k l (sym e), set_here k m x.is_found) in z)
+    go j t e (yes l) d = absurd (omega (arith, back_earlier p x j l e, t.is_left))
+    go j t e (no n) (yes l) = absurd (omega (arith, takeable_first t k l (sym e), set_here k m x.is_found))
     go j t e (no n) (no l) = omega arith
 
     there : (j : ℕ) × Takeable g s (m + 2 ^ k) j × (get_or s j 0 ≡ a) → bit_and (m + 2 ^ k) (bars_of g s k) ≡ 0
