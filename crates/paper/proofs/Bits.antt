@@ -27,11 +27,7 @@ bit_lt zero x = omega arith
 bit_lt (suc k) x = bit_lt k (x / 2)
 
 pub bit_cases : (k x : ℕ) → (bit_at k x ≡ 0) ⊎ (bit_at k x ≡ 1)
-bit_cases k x = go (bit_at k x) (bit_lt k x)
-  where
-    go : (b : ℕ) → b < 2 → (b ≡ 0) ⊎ (b ≡ 1)
-    go zero l = inl refl
-    go (suc b) l = inr (omega arith)
+bit_cases k x = grind (arith, bit_lt)
 
 -- a number below 2 ^ n has no bit from n on
 pub bit_high : (n k x : ℕ) → n ≤ k → x < 2 ^ n → bit_at k x ≡ 0
@@ -42,11 +38,7 @@ bit_high (suc n) zero x l h = absurd (omega arith)
 bit_high (suc n) (suc k) x l h = bit_high n k (x / 2) (omega arith) (omega (arith, pow-suc 2 n))
 
 pub bit_place : (n k x : ℕ) → x < 2 ^ n → bit_at k x ≡ 1 → k < n
-bit_place n k x h e = go (dec_lt k n)
-  where
-    go : Dec (k < n) → k < n
-    go (yes l) = l
-    go (no l) = absurd (omega (arith, bit_high n k x (omega arith) h))
+bit_place n k x h e = grind (arith, bit_high)
 
 -- a number with bit k set is at least 2 ^ k
 pub bit_power_le : (k x : ℕ) → bit_at k x ≡ 1 → 2 ^ k ≤ x
@@ -89,7 +81,7 @@ pub bit_ones : (n k : ℕ) → k < n → bit_at k (2 ^ n - 1) ≡ 1
 unfolding bit_at
 bit_ones zero k l = absurd (omega arith)
 bit_ones (suc n) zero l = omega (arith, pow-suc 2 n, pow_pos n)
-bit_ones (suc n) (suc k) l = let e : (2 ^ suc n - 1) / 2 ≡ 2 ^ n - 1 = omega (arith, pow-suc 2 n, pow_pos n) in ap (bit_at k) e ∙ bit_ones n k (omega arith)
+bit_ones (suc n) (suc k) l = grind (arith, bit_ones n k (omega arith))
 
 -- any other number below 2 ^ n has a clear bit there
 pub clear_exists : (n x : ℕ) → x < 2 ^ n → x ≢ 2 ^ n - 1 → (k : ℕ) × (k < n) × (bit_at k x ≡ 0)
@@ -117,7 +109,7 @@ set_here (suc k) x e = ap (bit_at k) (add_half k x) ∙ set_here k (x / 2) e
 pub set_other : (k j x : ℕ) → bit_at k x ≡ 0 → j ≢ k → bit_at j (x + 2 ^ k) ≡ bit_at j x
 unfolding bit_at
 set_other zero zero x e ne = absurd (ne refl)
-set_other zero (suc j) x e ne = let f : (x + 1) / 2 ≡ x / 2 = omega arith in ap (bit_at j) f
+set_other zero (suc j) x e ne = grind arith
 set_other (suc k) zero x e ne = omega (arith, pow-suc 2 k)
 set_other (suc k) (suc j) x e ne = ap (bit_at j) (add_half k x) ∙ set_other k j (x / 2) e (λ f. ne (ap suc f))
 
@@ -162,7 +154,7 @@ and_half x y c e = omega arith
 pub bit_and_lem : (k x y : ℕ) → bit_at k (bit_and x y) ≡ min (bit_at k x) (bit_at k y)
 unfolding bit_at
 bit_and_lem zero x y = let e = and_step x y in omega arith
-bit_and_lem (suc k) x y = ap (bit_at k) (and_half x y (bit_and (x / 2) (y / 2)) (and_step x y)) ∙ bit_and_lem k (x / 2) (y / 2)
+bit_and_lem (suc k) x y = grind (arith, and_step, bit_and_lem k (x / 2) (y / 2))
 
 or_half : (x y c : ℕ) → bit_or x y ≡ c * 2 + max (x % 2) (y % 2) → bit_or x y / 2 ≡ c
 or_half x y c e = omega arith
@@ -170,12 +162,11 @@ or_half x y c e = omega arith
 pub bit_or_lem : (k x y : ℕ) → bit_at k (bit_or x y) ≡ max (bit_at k x) (bit_at k y)
 unfolding bit_at
 bit_or_lem zero x y = let e = or_step x y in omega arith
-bit_or_lem (suc k) x y = ap (bit_at k) (or_half x y (bit_or (x / 2) (y / 2)) (or_step x y)) ∙ bit_or_lem k (x / 2) (y / 2)
+bit_or_lem (suc k) x y = grind (arith, or_step, bit_or_lem k (x / 2) (y / 2))
 
 -- bit k is in both exactly if it is in the numbers' `and`
 pub and_set : (k x y : ℕ) → (bit_at k (bit_and x y) ≡ 1) ↔ ((bit_at k x ≡ 1) × (bit_at k y ≡ 1))
-and_set k x y =
-    (λ e. let f = bit_and_lem k x y in (omega (arith, bit_lt k x, bit_lt k y), omega (arith, bit_lt k x, bit_lt k y)), λ (e, h). omega (arith, bit_and_lem k x y))
+and_set k x y = grind (arith, bit_and_lem, bit_lt)
 
 -- no bit is in both exactly if the numbers' `and` is 0
 pub and_none : (x y : ℕ) → (bit_and x y ≡ 0) ↔ ((k : ℕ) → bit_at k x ≡ 1 → bit_at k y ≡ 1 → ⊥)
@@ -191,20 +182,12 @@ and_none x y =
 pub trailing_lt : (n x : ℕ) → x ≢ 0 → x < 2 ^ n → count_trailing_zeros n x < n
 unfolding count_trailing_zeros
 trailing_lt zero x ne h = absurd (omega arith)
-trailing_lt (suc n) x ne h = go (x % 2) refl (trailing_lt n (x / 2))
-  where
-    go : (b : ℕ) → x % 2 ≡ b → (x / 2 ≢ 0 → x / 2 < 2 ^ n → count_trailing_zeros n (x / 2) < n) → under b (count_trailing_zeros n (x / 2)) < suc n
-    go zero e ih = omega (arith, ih (omega arith) (omega (arith, pow-suc 2 n)))
-    go (suc b) e ih = omega arith
+trailing_lt (suc n) x ne h = grind (arith, trailing_lt n (x / 2))
 
 pub trailing_set : (n x : ℕ) → x ≢ 0 → x < 2 ^ n → bit_at (count_trailing_zeros n x) x ≡ 1
 unfolding count_trailing_zeros bit_at
 trailing_set zero x ne h = absurd (omega arith)
-trailing_set (suc n) x ne h = go (x % 2) refl (trailing_set n (x / 2))
-  where
-    go : (b : ℕ) → x % 2 ≡ b → (x / 2 ≢ 0 → x / 2 < 2 ^ n → bit_at (count_trailing_zeros n (x / 2)) (x / 2) ≡ 1) → bit_at (under b (count_trailing_zeros n (x / 2))) x ≡ 1
-    go zero e ih = ih (omega arith) (omega (arith, pow-suc 2 n))
-    go (suc b) e ih = omega arith
+trailing_set (suc n) x ne h = grind (arith, trailing_set n (x / 2))
 
 -- the bits below it are clear
 pub trailing_clear : (n k x : ℕ) → k < count_trailing_zeros n x → bit_at k x ≡ 0
@@ -241,8 +224,8 @@ ones_half x y e = ones_step x ∙ ap (λ z. x % 2 + ones z) e
 
 pub ones_set : (k x : ℕ) → bit_at k x ≡ 0 → ones (x + 2 ^ k) ≡ suc (ones x)
 unfolding bit_at
-ones_set zero x e = omega (arith, ones_step x, ones_half (x + 1) (x / 2) (omega arith))
-ones_set (suc k) x e = omega (arith, ones_step x, ones_half (x + 2 ^ suc k) (x / 2 + 2 ^ k) (add_half k x), ones_set k (x / 2) e, pow-suc 2 k)
+ones_set zero x e = grind (arith, ones_step)
+ones_set (suc k) x e = grind (arith, ones_step, ones_set k (x / 2) e)
 
 -- clearing a set bit lowers them by one
 pub ones_clear : (k x : ℕ) → bit_at k x ≡ 1 → suc (ones (x - 2 ^ k)) ≡ ones x
