@@ -106,7 +106,7 @@ module _ {A : Type 0} where
 
   sum_less : (weight : A → ℕ) {x : A} {s : List A} (m : Memᴰ x s) → weight x + sum weight (less m) ≡ sum weight s
   unfolding sum
-  sum_less weight (Memᴰ.head {xs = s} e) = ap (λ y. weight y + sum weight s) e
+  sum_less weight (Memᴰ.head {xs = s} e) = cc
   sum_less weight (Memᴰ.tail m) = omega (arith, sum_less weight m)
 
   less_other : {x y : A} {s : List A} (m : Memᴰ x s) → Memᴰ y s → (y ≡ x → ⊥) → Memᴰ y (less m)
@@ -137,7 +137,7 @@ module _ {A : Type 0} where
 
   -- and it is no longer
   pub pigeonhole : (s t : List A) → Distinct s → ((x : A) → Memᴰ x s → Memᴰ x t) → length s ≤ length t
-  pigeonhole s t d h = omega (arith, length_sum s, length_sum t, pigeonhole_sum (λ x. 1) s t d h)
+  pigeonhole s t d h = grind (arith, length_sum, pigeonhole_sum)
 
   pub distinct_append : (s t : List A) → Distinct s → Distinct t → ((x : A) → Memᴰ x s → Memᴰ x t → ⊥) → Distinct (s ++ t)
   distinct_append [] t d e apart = e
@@ -156,12 +156,8 @@ module _ {A : Type 0} where
   pub distinct_keep : (p : A → Bool) (s : List A) → Distinct s → Distinct (keep p s)
   unfolding keep
   distinct_keep p [] d = tt
-  distinct_keep p (x ∷ s) d = go (p x) (distinct_keep p s d.1)
-    where
-      go : (b : Bool) → Distinct (keep p s) → Distinct (cond b (x ∷ keep p s) (keep p s))
-      go true ih = (λ m. d.0 (keep_mem p s m).0, ih)
-      go false ih = ih
+  distinct_keep p (x ∷ s) d = grind (arith, keep_mem, distinct_keep p s d.1)
 
 pub distinct_map : {A B : Type 0} (f : A → B) → ((x y : A) → f x ≡ f y → x ≡ y) → (s : List A) → Distinct s → Distinct (map f s)
 distinct_map f inj [] d = tt
-distinct_map f inj (x ∷ s) d = (λ m. let r = map_mem f s m in d.0 (Memᴰ.cast (inj x r.0 r.2) r.1), distinct_map f inj s d.1)
+distinct_map f inj (x ∷ s) d = grind (arith, map_mem, distinct_map f inj s d.1)
