@@ -19,40 +19,29 @@ use Rattle.paper.proofs.Records.{goes_on, spot_on, spot_here}
 pub pair_on : (symbols k least a b : ℕ) (s : List ℕ) → a < symbols → b < symbols → least ≤ a * 256 + b
     → pair_fault symbols k least (a ∷ b ∷ s) ≡ pair_fault symbols (suc k) (suc (a * 256 + b)) s
 unfolding pair_fault
-pair_on symbols k least a b s l m h =
-    spot_on (ltb a symbols && (ltb b symbols && leb least (a * 256 + b))) k (pair_fault symbols (suc k) (suc (a * 256 + b)) s)
-    (simp and-eq-true_iff (lt-ltb a symbols l, (lt-ltb b symbols m, le-leb least (a * 256 + b) h)))
+pair_on symbols k least a b s l m h = grind arith
 
 pub pair_stop : (symbols k least a b : ℕ) (s : List ℕ) → (ltb a symbols && (ltb b symbols && leb least (a * 256 + b))) ≡ false
     → pair_fault symbols k least (a ∷ b ∷ s) ≡ at k
 unfolding pair_fault
-pair_stop symbols k least a b s wrong =
-    spot_here (ltb a symbols && (ltb b symbols && leb least (a * 256 + b))) k (pair_fault symbols (suc k) (suc (a * 256 + b)) s) wrong
+pair_stop symbols k least a b s wrong = cc
 
 pub closing_on : (pairs : List Pair) (k : ℕ) (p : Pair) (more : List Pair) → (p.earlier ≡ p.later → ⊥) → chained pairs p.earlier p.later pairs ≡ true
     → closing_fault pairs k (p ∷ more) ≡ closing_fault pairs (suc k) more
 unfolding closing_fault
-closing_on pairs k p more ne h =
-    spot_on (not (eqb p.earlier p.later) && chained pairs p.earlier p.later pairs) k (closing_fault pairs (suc k) more)
-    (rw (ne_eqb p.earlier p.later ne, h))
+closing_on pairs k p more ne h = grind arith
 
 pub closing_stop : (pairs : List Pair) (k : ℕ) (p : Pair) (more : List Pair) → (not (eqb p.earlier p.later) && chained pairs p.earlier p.later pairs) ≡ false
     → closing_fault pairs k (p ∷ more) ≡ at k
 unfolding closing_fault
-closing_stop pairs k p more wrong =
-    spot_here (not (eqb p.earlier p.later) && chained pairs p.earlier p.later pairs) k (closing_fault pairs (suc k) more) wrong
+closing_stop pairs k p more wrong = cc
 
 -- The closing of the order.
 
 -- a pair is written first or among the others
 pub written_cases : {P : Type 0} (p : Pair) (more : List Pair) (a b : ℕ) → paired (p ∷ more) a b ≡ true → (p.earlier ≡ a → p.later ≡ b → P) → (paired more a b ≡ true → P) → P
 unfolding paired
-written_cases {P} p more a b h here there = go (eqb p.earlier a) refl (eqb p.later b) refl
-  where
-    go : (x : Bool) → eqb p.earlier a ≡ x → (y : Bool) → eqb p.later b ≡ y → P
-    go true e true f = here (eqb-true p.earlier a e) (eqb-true p.later b f)
-    go true e false f = there (rw (e, f) at h)
-    go false e y f = there (rw e at h)
+written_cases {P} p more a b h here there = grind arith
 
 -- What a sound closing says of each pair.
 record Closed (pairs : List Pair) (a b : ℕ) : Type 0 where
@@ -62,10 +51,7 @@ record Closed (pairs : List Pair) (a b : ℕ) : Type 0 where
 closing_goes_on : (pairs : List Pair) (k : ℕ) (p : Pair) (more : List Pair) → closing_fault pairs k (p ∷ more) ≡ sound
     → Closed pairs p.earlier p.later × (closing_fault pairs (suc k) more ≡ sound)
 unfolding closing_fault
-closing_goes_on pairs k p more h =
-    let e = goes_on (not (eqb p.earlier p.later) && chained pairs p.earlier p.later pairs) k (closing_fault pairs (suc k) more) h in
-    let b = (and-eq-true_iff (not (eqb p.earlier p.later)) (chained pairs p.earlier p.later pairs)).0 e.0 in
-    (record { apart = eqb-false p.earlier p.later (not-true (eqb p.earlier p.later) b.0); chains = b.1 }, e.1)
+closing_goes_on pairs k p more h = grind arith
 
 closed_at : (pairs : List Pair) (a b c d : ℕ) → c ≡ a → d ≡ b → Closed pairs c d → Closed pairs a b
 closed_at pairs a b c d e f h = rw (← e, ← f) h
@@ -105,10 +91,7 @@ closed_order pairs h =
 
 pair_further : (a b : ℕ) (s : List ℕ) (k : ℕ)
     → ◌≡◌ {A = Pair} (record { earlier = byte s (2 * k); later = byte s (2 * k + 1) }) (record { earlier = byte (a ∷ b ∷ s) (2 * suc k); later = byte (a ∷ b ∷ s) (2 * suc k + 1) })
-pair_further a b s k =
-    let e : 2 * suc k ≡ suc (suc (2 * k)) = omega arith in
-    let f : suc (suc (2 * k)) + 1 ≡ suc (suc (2 * k + 1)) = omega arith in
-    rw (e, f)
+pair_further a b s k = grind arith
 
 -- pair k is bytes 2k and 2k+1
 pub pair_at : (s : List ℕ) (k : ℕ) (none : Pair) → k < length (pairs_of s) → get_or (pairs_of s) k none ≡ record { earlier = byte s (2 * k); later = byte s (2 * k + 1) }
@@ -128,21 +111,11 @@ pub record RightPairs (symbols least : ℕ) (s : List ℕ) : Type 0 where
 pair_goes_on : (symbols k least a b : ℕ) (s : List ℕ) → pair_fault symbols k least (a ∷ b ∷ s) ≡ sound
     → (a < symbols) × (b < symbols) × (least ≤ a * 256 + b) × (pair_fault symbols (suc k) (suc (a * 256 + b)) s ≡ sound)
 unfolding pair_fault
-pair_goes_on symbols k least a b s h =
-    let e = goes_on (ltb a symbols && (ltb b symbols && leb least (a * 256 + b))) k (pair_fault symbols (suc k) (suc (a * 256 + b)) s) h in
-    let t = (and-eq-true_iff (ltb a symbols) (ltb b symbols && leb least (a * 256 + b))).0 e.0 in
-    let u = (and-eq-true_iff (ltb b symbols) (leb least (a * 256 + b))).0 t.1 in
-    (ltb-true a symbols t.0, ltb-true b symbols u.0, leb-true least (a * 256 + b) u.1, e.1)
+pair_goes_on symbols k least a b s h = grind arith
 
 pairs_none : (symbols least : ℕ) → RightPairs symbols least []
 unfolding pairs_of paired
-pairs_none symbols least =
-    record {
-      size = refl;
-      below = λ a b w. cc;
-      least_is = λ k l. absurd (omega arith);
-      ascending = record { ascend = λ i j l m. absurd (omega arith) };
-    }
+pairs_none symbols least = grind arith
 
 pairs_step : (symbols least a b : ℕ) (s : List ℕ) → a < symbols → b < symbols → least ≤ a * 256 + b → RightPairs symbols (suc (a * 256 + b)) s
     → RightPairs symbols least (a ∷ b ∷ s)
