@@ -82,7 +82,7 @@ place_after (suc h) r = omega (arith, place_after h (drop (record_size r) r))
 pub ascends_from : (least : ℕ) (s : List ℕ) → ascends least s ≡ true → (k : ℕ) → k < length s → least ≤ get_or s k 0
 unfolding ascends
 ascends_from least [] h k l = absurd (omega arith)
-ascends_from least (a ∷ s) h zero l = let b = simp and-eq-true_iff at h in leb-true least a b.0
+ascends_from least (a ∷ s) h zero l = grind arith
 ascends_from least (a ∷ s) h (suc k) l =
     let b = simp and-eq-true_iff at h in omega (arith, leb-true least a b.0, ascends_from a s b.1 k (omega arith))
 
@@ -96,7 +96,7 @@ ascends_all least (a ∷ s) h (suc i) (suc j) l m = let b = simp and-eq-true_iff
 pub all_below_lem : (limit : ℕ) (s : List ℕ) → all_below limit s ≡ true → (k : ℕ) → k < length s → get_or s k 0 < limit
 unfolding all_below
 all_below_lem limit [] h k l = absurd (omega arith)
-all_below_lem limit (a ∷ s) h zero l = let b = simp and-eq-true_iff at h in ltb-true a limit b.0
+all_below_lem limit (a ∷ s) h zero l = grind arith
 all_below_lem limit (a ∷ s) h (suc k) l = let b = simp and-eq-true_iff at h in all_below_lem limit s b.1 k (omega arith)
 
 -- a rule has as many members as its record says
@@ -146,12 +146,7 @@ record_bytes (a ∷ b ∷ s) h =
 
 before_cases : (a b : ℕ) (s t : List ℕ) → record_before (a ∷ s) (b ∷ t) ≡ true → (a < b) ⊎ ((a ≡ b) × (record_before s t ≡ true))
 unfolding record_before
-before_cases a b s t h = go (ltb a b) refl (eqb a b) refl
-  where
-    go : (x : Bool) → ltb a b ≡ x → (y : Bool) → eqb a b ≡ y → (a < b) ⊎ ((a ≡ b) × (record_before s t ≡ true))
-    go true p y q = inl (ltb-true a b p)
-    go false p true q = inr (eqb-true a b q, rw (p, q) at h)
-    go false p false q = absurd (let z : false ≡ true = rw (p, q) at h in cc)
+before_cases a b s t h = grind arith
 
 before_less : (a b : ℕ) (s t : List ℕ) → a < b → record_before (a ∷ s) (b ∷ t) ≡ true
 unfolding record_before
@@ -159,11 +154,7 @@ before_less a b s t l = rw (lt-ltb a b l)
 
 before_same : (a b : ℕ) (s t : List ℕ) → a ≡ b → record_before s t ≡ true → record_before (a ∷ s) (b ∷ t) ≡ true
 unfolding record_before
-before_same a b s t e h = rw (eq-eqb a b e, h) (or_last (ltb a b))
-  where
-    or_last : (x : Bool) → (x || true) ≡ true
-    or_last true = refl
-    or_last false = refl
+before_same a b s t e h = grind arith
 
 before_step : (a b c : ℕ) (s t u : List ℕ) → (record_before s t ≡ true → record_before t u ≡ true → record_before s u ≡ true)
     → (a < b) ⊎ ((a ≡ b) × (record_before s t ≡ true)) → (b < c) ⊎ ((b ≡ c) × (record_before t u ≡ true)) → record_before (a ∷ s) (c ∷ u) ≡ true
@@ -179,17 +170,13 @@ before_trans [] (b ∷ t) [] h k = k
 before_trans [] (b ∷ t) (c ∷ u) h k = refl
 before_trans (a ∷ s) [] u h k = cc
 before_trans (a ∷ s) (b ∷ t) [] h k = k
-before_trans (a ∷ s) (b ∷ t) (c ∷ u) h k = before_step a b c s t u (before_trans s t u) (before_cases a b s t h) (before_cases b c t u k)
+before_trans (a ∷ s) (b ∷ t) (c ∷ u) h k = grind (arith, before_trans s t u)
 
 -- no record is before itself
 before_self : (s : List ℕ) → record_before s s ≡ true → ⊥
 unfolding record_before
 before_self [] h = cc
-before_self (a ∷ s) h = go (before_cases a a s s h) (before_self s)
-  where
-    go : (a < a) ⊎ ((a ≡ a) × (record_before s s ≡ true)) → (record_before s s ≡ true → ⊥) → ⊥
-    go (inl l) ih = omega arith
-    go (inr e) ih = ih e.1
+before_self (a ∷ s) h = grind (arith, before_self s)
 
 -- A sound rules body.
 
@@ -202,17 +189,7 @@ pub record RightRecords (terminals symbols more : ℕ) (last r : List ℕ) : Typ
 
 records_end : (terminals symbols : ℕ) (last r : List ℕ) (k : ℕ) → record_fault terminals symbols 0 k last r ≡ sound → RightRecords terminals symbols 0 last r
 unfolding record_fault record_at
-records_end terminals symbols last r k h =
-    record {
-      right = λ n l. absurd (omega arith);
-      first = λ l. absurd (omega arith);
-      next = λ n l. absurd (omega arith);
-      filled = go (eqb (length r) 0) refl;
-    }
-  where
-    go : (t : Bool) → eqb (length r) 0 ≡ t → length r ≡ 0
-    go true e = eqb-true (length r) 0 e
-    go false e = absurd (let y : at k ≡ sound = rw e at h in cc)
+records_end terminals symbols last r k h = grind arith
 
 records_step : (terminals symbols more : ℕ) (last r : List ℕ) → record_right terminals symbols r ≡ true → record_before last (record_of r) ≡ true
     → RightRecords terminals symbols more (record_of r) (drop (record_size r) r) → RightRecords terminals symbols (suc more) last r
@@ -242,8 +219,7 @@ records_tail terminals symbols more last r run =
 record_goes_on : (terminals symbols more k : ℕ) (last r : List ℕ) → record_fault terminals symbols (suc more) k last r ≡ sound
     → ((record_right terminals symbols r && record_before last (record_of r)) ≡ true) × (record_fault terminals symbols more (suc k) (record_of r) (drop (record_size r) r) ≡ sound)
 unfolding record_fault
-record_goes_on terminals symbols more k last r h =
-    goes_on (record_right terminals symbols r && record_before last (record_of r)) k (record_fault terminals symbols more (suc k) (record_of r) (drop (record_size r) r)) h
+record_goes_on terminals symbols more k last r h = grind arith
 
 pub records_right : (terminals symbols more k : ℕ) (last r : List ℕ) → record_fault terminals symbols more k last r ≡ sound
     → RightRecords terminals symbols more last r
@@ -309,9 +285,7 @@ module _ {terminals symbols more : ℕ} {last r : List ℕ} (run : RightRecords 
       go : (t : Bool) → eqb h k ≡ t → (h < k → k < more → record_before (record_of (record_at h r)) (record_of (record_at k r)) ≡ true)
           → record_before (record_of (record_at h r)) (record_of (record_at (suc k) r)) ≡ true
       go true e ih = rw (eqb-true h k e) (run.next k m)
-      go false e ih =
-          let ne = eqb-false h k e in
-          before_trans (record_of (record_at h r)) (record_of (record_at k r)) (record_of (record_at (suc k) r)) (ih (omega arith) (omega arith)) (run.next k m)
+      go false e ih = grind (arith, before_trans)
 
   -- no two records mean the same rule
   pub rules_unlike : (h k : ℕ) → h < k → k < more → rule_of (record_at h r) ≡ rule_of (record_at k r) → ⊥
