@@ -47,30 +47,11 @@ pub record RightSymbols (s : List ℕ) : Type 0 where
 -- the test and what it says, both ways
 pub symbols_right_lem : (s : List ℕ) → symbols_right s ≡ true → RightSymbols s
 unfolding symbols_right
-symbols_right_lem s h = let k = simp and-eq-true_iff at h in omega (arith, eqb-true, leb-true, ltb-true)
+symbols_right_lem s h = grind arith
 
 pub symbols_check : (s : List ℕ) → RightSymbols s → symbols_right s ≡ true
 unfolding symbols_right
-symbols_check s c =
-    simp and-eq-true_iff (
-      eq-eqb (length s) 3 c.size,
-      (
-        le-leb 1 (byte s 0) c.a_terminal,
-        (
-          le-leb 1 (byte s 1) c.a_nonterminal,
-          (
-            le-leb (byte s 0 + byte s 1) 64 c.few,
-            (
-              le-leb (byte s 0) (byte s 2) c.start_above,
-              (
-                lt-ltb (byte s 2) (byte s 0 + byte s 1) c.start_below,
-                refl,
-              ),
-            ),
-          ),
-        ),
-      ),
-    )
+symbols_check s c = grind arith
 
 -- What `contents_right` says.
 pub record RightContents (b : List ℕ) : Type 0 where
@@ -88,64 +69,21 @@ pub record RightContents (b : List ℕ) : Type 0 where
 -- the test and what it says, both ways
 pub contents_right_lem : (b : List ℕ) → contents_right b ≡ true → RightContents b
 unfolding contents_right
-contents_right_lem b h = let k = simp and-eq-true_iff at h in omega (arith, eqb-true, leb-true)
+contents_right_lem b h = grind arith
 
 pub contents_check : (b : List ℕ) → RightContents b → contents_right b ≡ true
 unfolding contents_right
-contents_check b c =
-    simp and-eq-true_iff (
-      le-leb 17 (length b) c.size,
-      (
-        eq-eqb (byte b 0) 1 c.form,
-        (
-          eq-eqb (byte b 1) 3 c.bodies,
-          (
-            eq-eqb (kind b 0) 1 c.kind_0,
-            (
-              eq-eqb (kind b 1) 2 c.kind_1,
-              (
-                eq-eqb (kind b 2) 3 c.kind_2,
-                (
-                  eq-eqb (offset b 0) 17 c.offset_0,
-                  (
-                    eq-eqb (offset b 1) (offset b 0 + extent b 0) c.offset_1,
-                    (
-                      eq-eqb (offset b 2) (offset b 1 + extent b 1) c.offset_2,
-                      (
-                        eq-eqb (length b) (offset b 2 + extent b 2) c.ends,
-                        refl,
-                      ),
-                    ),
-                  ),
-                ),
-              ),
-            ),
-          ),
-        ),
-      ),
-    )
+contents_check b c = grind arith
 
 -- An image is admitted where it passes the five tests ..
 pub admitted : (b : List ℕ) → (image_fault b).number ≡ 0 → Admitted b
 unfolding image_fault
-admitted b h =
-    let k = passed 9 (wrong_if (contents_right b)) _ h in
-    let l = passed 10 (wrong_if (symbols_right (body b 0))) _ k.1 in
-    let m = passed 11 (rules_fault (image_terminals b) (image_symbols b) (body b 1)) _ l.1 in
-    let n = passed 12 (pair_fault (image_symbols b) 0 0 (body b 2)) _ m.1 in
-    let o = passed 13 (closing_fault (image_pairs b) 0 (image_pairs b)) _ n.1 in
-    record {
-      contents = right_is (contents_right b) k.0;
-      symbols = right_is (symbols_right (body b 0)) l.0;
-      rules = m.0;
-      pairs = n.0;
-      closed = o.0;
-    }
+admitted b h = grind arith
 
 -- .. and an image that passes them is admitted
 pub admitted_number : (b : List ℕ) → Admitted b → (image_fault b).number ≡ 0
 unfolding image_fault
-admitted_number b a = rw (a.contents, a.symbols, a.rules, a.pairs, a.closed)
+admitted_number b a = cc
 
 -- Each refusal holds where its test fails and those before it do not.
 
@@ -167,12 +105,12 @@ module _ (b : List ℕ) where
       module _ (rules : rules_fault (image_terminals b) (image_symbols b) (body b 1) ≡ sound) where
         pub refused_pairs : (k : ℕ) → pair_fault (image_symbols b) 0 0 (body b 2) ≡ at k → image_fault b ≡ record { number = 13; place = k }
         unfolding image_fault
-        refused_pairs k h = rw (contents, symbols, rules, h)
+        refused_pairs k h = cc
 
         pub refused_closing : (k : ℕ) → pair_fault (image_symbols b) 0 0 (body b 2) ≡ sound → closing_fault (image_pairs b) 0 (image_pairs b) ≡ at k
             → image_fault b ≡ record { number = 14; place = k }
         unfolding image_fault
-        refused_closing k pairs h = rw (contents, symbols, rules, pairs, h)
+        refused_closing k pairs h = cc
 
 -- A grammar from three bodies that are right.
 
@@ -215,7 +153,7 @@ module _ (s r p : List ℕ) (symbols : RightSymbols s) (rules : RightRules (byte
 -- an image means the grammar of its bodies
 pub grammar_of_bodies : (b s r p : List ℕ) → body b 0 ≡ s → body b 1 ≡ r → body b 2 ≡ p → grammar_of b ≡ parts_grammar s r p
 unfolding grammar_of parts_grammar
-grammar_of_bodies b s r p e f g = λ i. parts_grammar (e i) (f i) (g i)
+grammar_of_bodies b s r p e f g = cc
 
 -- An admitted image means a grammar.
 pub image_grammar : (b : List ℕ) → (image_fault b).number ≡ 0 → IsGrammar (grammar_of b)
@@ -235,7 +173,7 @@ image_count b = rules_count (byte (body b 1) 0) (drop 1 (body b 1))
 -- rule h is the one that record h of the rules body means
 pub image_rule : (b : List ℕ) (h : ℕ) → h < byte (body b 1) 0 → rule_at (grammar_of b) h ≡ rule_of (record_at h (drop 1 (body b 1)))
 unfolding grammar_of
-image_rule b h l = rules_at (byte (body b 1) 0) h (drop 1 (body b 1)) (record { left = 0; members = [] }) l
+image_rule b h l = grind (arith, rules_at)
 
 -- each body lies inside the image
 pub body_inside : (b : List ℕ) → RightContents b → (k : ℕ) → k < 3 → offset b k + extent b k ≤ length b
@@ -246,27 +184,23 @@ body_inside b c (suc (suc (suc k))) l = absurd (omega arith)
 
 -- and has the length that its entry tells
 pub body_length : (b : List ℕ) → RightContents b → (k : ℕ) → k < 3 → length (body b k) ≡ extent b k
-body_length b c k l = length-take-le (extent b k) (drop (offset b k) b) (omega (arith, length-drop (offset b k) b, body_inside b c k l))
+body_length b c k l = grind (arith, length-take-le, length-drop)
 
 -- byte i of body k
 pub body_byte : (b : List ℕ) (k i : ℕ) → i < extent b k → byte (body b k) i ≡ byte b (offset b k + i)
-body_byte b k i l = get_or-take (extent b k) (drop (offset b k) b) i 0 l ∙ get_or-drop (offset b k) b i 0
+body_byte b k i l = grind (arith, get_or-take, get_or-drop)
 
 -- a byte, and so is the 0 past the end
 pub byte_below : (b : List ℕ) → AreBytes b → (k : ℕ) → byte b k < 256
-byte_below b h k = go (ltb k (length b)) refl
-  where
-    go : (t : Bool) → ltb k (length b) ≡ t → byte b k < 256
-    go true e = h.below k (ltb-true k (length b) e)
-    go false e = rw (get_or-eq_default b 0 {n = k} (ltb-false k (length b) e)) (omega arith)
+byte_below b h k = grind (arith, get_or-eq_default)
 
 -- an offset or a length is below 65,536
 pub two_bytes_below : (b : List ℕ) → AreBytes b → (k : ℕ) → two_bytes b k < 65536
-two_bytes_below b h k = omega (arith, byte_below b h k, byte_below b h (k + 1))
+two_bytes_below b h k = grind (arith, byte_below)
 
 -- an image whose contents are right ends where the last offset and length say
 pub contents_length : (b : List ℕ) → AreBytes b → RightContents b → length b ≤ 131070
-contents_length b h c = omega (arith, c.ends, two_bytes_below b h (3 + 5 * 2), two_bytes_below b h (5 + 5 * 2))
+contents_length b h c = omega arith
 
 -- an admitted image has contents, symbols, at most 96 rules of 10 bytes and 4,096 pairs
 pub image_length : (b : List ℕ) → Admitted b → length b ≤ 17 + 3 + (1 + 10 * 96) + 2 * 4096
@@ -303,12 +237,4 @@ pub record HouseGrammar (g : Grammar) : Type 0 where
 -- The house image means it.
 pub house_means : HouseGrammar (grammar_of house)
 unfolding grammar_of rules_of pairs_of paired
-house_means =
-    record {
-      terminals_are = refl;
-      nonterminals_are = refl;
-      start_is = refl;
-      rules_are = refl;
-      value_before_unit = refl;
-      no_other = λ a b h. written_cases (record { earlier = 1; later = 2 }) [] a b h (λ e f. (sym e, sym f)) (λ n. cc);
-    }
+house_means = grind arith
