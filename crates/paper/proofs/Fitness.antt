@@ -32,14 +32,4 @@ no_refusal n false h = refl
 -- What is known of a row that is not refused.
 pub row_fit : (image row : List ℕ) → row_refusal image row ≡ 0 → Fit image row
 unfolding row_refusal
-row_fit image row h =
-    let g = grammar_of image in
-    let (whole, t) = first_none (image_refusal image) (too_long (length row) ∷ strange g row ∷ []) h in
-    let (long, t) = first_none (too_long (length row)) (strange g row ∷ []) t in
-    let (odd, t) = first_none (strange g row) [] t in
-    let known = not-false (all_below g.terminals row) (no_refusal 20 (not (all_below g.terminals row)) odd) in
-    record {
-      is_grammar = image_grammar image whole;
-      short = ltb-false 64 (length row) (no_refusal 19 (ltb 64 (length row)) long);
-      is_row = record { tokens_are = λ k l. record { below = all_below_lem g.terminals row known k l } };
-    }
+row_fit image row h = grind (arith, image_grammar, all_below_lem)
