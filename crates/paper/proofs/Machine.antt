@@ -50,11 +50,7 @@ has_head a s = rw (eq-eqb a a refl)
 
 pub has_tail : (a b : ℕ) (s : List ℕ) → has a s ≡ true → has a (b ∷ s) ≡ true
 unfolding has
-has_tail a b s h = go (eqb a b)
-  where
-    go : (t : Bool) → (t || has a s) ≡ true
-    go true = refl
-    go false = h
+has_tail a b s h = grind arith
 
 pub has_place : (s : List ℕ) (k : ℕ) → k < length s → has (get_or s k 0) s ≡ true
 has_place [] k h = absurd (omega arith)
@@ -69,11 +65,7 @@ has_arranged a {s} {t} h m = count_has a t (omega (arith, h.counts a, has_count 
 pub unbarred_each : (g : Grammar) (a b : ℕ) (s : List ℕ) → barred g a s ≡ false → has b s ≡ true → g.precedes b a ≡ false
 unfolding barred has
 unbarred_each g a b [] h m = cc
-unbarred_each g a b (c ∷ s) h m = go (eqb b c) refl (unbarred_each g a b s (or_right (g.precedes c a) (barred g a s) h))
-  where
-    go : (t : Bool) → eqb b c ≡ t → (has b s ≡ true → g.precedes b a ≡ false) → g.precedes b a ≡ false
-    go true e ih = rw (eqb-true b c e) (or_left (g.precedes c a) (barred g a s) h)
-    go false e ih = ih (rw e at m)
+unbarred_each g a b (c ∷ s) h m = grind (arith, unbarred_each g a b s (or_right (g.precedes c a) (barred g a s) h))
 
 pub unbarred_places : (g : Grammar) (a : ℕ) (s : List ℕ) → ((k : ℕ) → k < length s → g.precedes (get_or s k 0) a ≡ false) → barred g a s ≡ false
 unfolding barred
@@ -102,7 +94,7 @@ unbarred_tail g a b s = or_right (g.precedes b a) (barred g a s)
 -- ## Acceptable
 
 pub acceptable_nil : (g : Grammar) → Acceptable g []
-acceptable_nil g = record { in_order = λ i j p q. absurd (omega arith) }
+acceptable_nil g = grind arith
 
 pub acceptable_head : {g : Grammar} {a : ℕ} {s : List ℕ} → Acceptable g (a ∷ s) → barred g a s ≡ false
 acceptable_head {g} {a} {s} h = unbarred_places g a s (λ k p. h.in_order 0 (suc k) (omega arith) (omega arith))
@@ -112,20 +104,10 @@ acceptable_tail h = record { in_order = λ i j p q. h.in_order (suc i) (suc j) (
 
 -- a sequence is acceptable if nothing behind its head must precede the head, and its tail is acceptable
 pub acceptable_cons : {g : Grammar} {a : ℕ} {s : List ℕ} → barred g a s ≡ false → Acceptable g s → Acceptable g (a ∷ s)
-acceptable_cons {g} {a} {s} f h = record { in_order = places }
-  where
-    places : (i j : ℕ) → i < j → j < length (a ∷ s) → g.precedes (get_or (a ∷ s) j 0) (get_or (a ∷ s) i 0) ≡ false
-    places i zero p q = absurd (omega arith)
-    places zero (suc j) p q = unbarred_each g a (get_or s j 0) s f (has_place s j (omega arith))
-    places (suc i) (suc j) p q = h.in_order i j (omega arith) (omega arith)
+acceptable_cons {g} {a} {s} f h = grind (arith, unbarred_each, has_place)
 
 pub acceptable_front : {g : Grammar} (s t : List ℕ) → Acceptable g (s ++ t) → Acceptable g s
-acceptable_front {g} s t h = record { in_order = places }
-  where
-    places : (i j : ℕ) → i < j → j < length s → g.precedes (get_or s j 0) (get_or s i 0) ≡ false
-    places i j p q =
-        let q' : i < length s = omega arith in
-        rw (get_or-append s t 0 j q, get_or-append s t 0 i q') at (h.in_order i j p (omega (arith, length-append s t)))
+acceptable_front {g} s t h = grind (arith, get_or-append, length-append)
 
 pub acceptable_back : {g : Grammar} (s t : List ℕ) → Acceptable g (s ++ t) → Acceptable g t
 acceptable_back [] t h = h
@@ -180,11 +162,7 @@ inserted_behind {g} b c t h e r =
 inserted : {g : Grammar} → StrictPartialOrder g.precedes → (b : ℕ) (t : List ℕ) → Acceptable g t → Inserted g b t
 inserted {g} o b [] h =
     record { sequence = b ∷ []; arranged = arranged_refl (b ∷ []); acceptable = acceptable_cons (unbarred_nil g b) h }
-inserted {g} o b (c ∷ t) h = go (g.precedes b c) refl (inserted o b t (acceptable_tail h))
-  where
-    go : (x : Bool) → g.precedes b c ≡ x → Inserted g b t → Inserted g b (c ∷ t)
-    go true e r = inserted_front o b c t h e
-    go false e r = inserted_behind b c t h e r
+inserted {g} o b (c ∷ t) h = grind (arith, inserted_front, inserted_behind, inserted o b t (acceptable_tail h))
 
 one_more : {g : Grammar} → StrictPartialOrder g.precedes → (a : ℕ) (s : List ℕ) → (t : List ℕ) × Arrangement t s × Acceptable g t
     → (t : List ℕ) × Arrangement t (a ∷ s) × Acceptable g t
@@ -199,11 +177,11 @@ arranged_acceptable {g} o (a ∷ s) = one_more o a s (arranged_acceptable o s)
 
 pub taken_has : (g : Grammar) (a : ℕ) (s : List ℕ) → may_take g a s ≡ true → has a s ≡ true
 unfolding may_take
-taken_has g a s h = and_left (has a s) (not (barred g a s)) h
+taken_has g a s h = grind arith
 
 pub taken_unbarred : (g : Grammar) (a : ℕ) (s : List ℕ) → may_take g a s ≡ true → barred g a s ≡ false
 unfolding may_take
-taken_unbarred g a s h = not-true (barred g a s) (and_right (has a s) (not (barred g a s)) h)
+taken_unbarred g a s h = grind arith
 
 pub may_take_lem : (g : Grammar) (a : ℕ) (s : List ℕ) → has a s ≡ true → barred g a s ≡ false → may_take g a s ≡ true
 unfolding may_take
@@ -237,11 +215,11 @@ may_take_all g (a ∷ s) rest = may_take g a rest && may_take_all g s (without a
 
 pub all_taken_head : (g : Grammar) (a : ℕ) (s rest : List ℕ) → may_take_all g (a ∷ s) rest ≡ true → may_take g a rest ≡ true
 unfolding may_take_all
-all_taken_head g a s rest = and_left (may_take g a rest) (may_take_all g s (without a rest))
+all_taken_head g a s rest = grind arith
 
 pub all_taken_tail : (g : Grammar) (a : ℕ) (s rest : List ℕ) → may_take_all g (a ∷ s) rest ≡ true → may_take_all g s (without a rest) ≡ true
 unfolding may_take_all
-all_taken_tail g a s rest = and_right (may_take g a rest) (may_take_all g s (without a rest))
+all_taken_tail g a s rest = grind arith
 
 -- the front of an acceptable arrangement of the rest may be taken in turn
 pub front_taken : {g : Grammar} → StrictPartialOrder g.precedes → (s t : List ℕ) {rest : List ℕ} → Arrangement (s ++ t) rest → Acceptable g (s ++ t) → may_take_all g s rest ≡ true
