@@ -39,10 +39,7 @@ pub record Present (a : ℕ) (s : List ℕ) (r : List ℕ) : Type 0 where
   pub r_is : r ≡ a ∷ q
 
 present_mem : {r : List ℕ} (a : ℕ) (s : List ℕ) → Memᴰ r (map (a ∷◌) (full a s)) → Present a s r
-present_mem a s m =
-    let x = map_mem (a ∷◌) (full a s) m in
-    let k = keep_mem (λ q. eqb (count a q) (count a s)) (sub_multisets s) x.1 in
-    record { q = x.0; listed = k.0; every = eqb-true (count a x.0) (count a s) k.1; r_is = x.2 }
+present_mem a s m = grind (arith, map_mem, keep_mem)
 
 -- how r is listed: its first member is missing, or it is there with every later one equal to it
 pub listed_cases : {r : List ℕ} (a : ℕ) (s : List ℕ) → Listed r (a ∷ s) → Listed r s ⊎ Present a s r
@@ -78,11 +75,7 @@ listed_count b {r} (a ∷ s) m = go (listed_cases a s m) (λ q n. listed_count b
 count_without_other : (a b : ℕ) (s : List ℕ) → (a ≡ b → ⊥) → count a (without b s) ≡ count a s
 unfolding count without
 count_without_other a b [] ne = refl
-count_without_other a b (c ∷ s) ne = go (eqb b c) refl (count_without_other a b s ne)
-  where
-    go : (t : Bool) → eqb b c ≡ t → count a (without b s) ≡ count a s → count a (cond t s (c ∷ without b s)) ≡ bit (eqb a c) + count a s
-    go true e ih = rw (ne_eqb a c (λ f. ne (f ∙ sym (eqb-true b c e)))) (omega arith)
-    go false e ih = omega arith
+count_without_other a b (c ∷ s) ne = grind (arith, count_without_other a b s ne)
 
 pub listed_without : (b : ℕ) {r : List ℕ} (s : List ℕ) → Listed r s → Listed (without b r) s
 unfolding without
@@ -124,7 +117,7 @@ listed_same (a ∷ s) {r} {t} m n h = go (listed_cases a s m) (listed_cases a s 
 -- a list that has no symbol more often than the whole is an arrangement of one that is listed
 pub listed_exists : (s t : List ℕ) → ((b : ℕ) → count b t ≤ count b s) → (r : List ℕ) × Listed r s × Arrangement t r
 unfolding count
-listed_exists [] t h = ([], listed_all [], record { counts = λ b. let k = h b in omega arith })
+listed_exists [] t h = grind (arith, listed_all)
 listed_exists (a ∷ s) t h = go (dec_le (count a t) (count a s)) (λ u. listed_exists s u)
   where
     fewer : count a t ≤ count a s → (b : ℕ) → Dec (b ≡ a) → count b t ≤ count b s
