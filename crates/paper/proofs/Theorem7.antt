@@ -42,7 +42,7 @@ finished_rest e h = empty e.rest (eqb-true (length e.rest) 0 h)
 
 pub rest_finished : (e : Entry) → e.rest ≡ [] → finished e ≡ true
 unfolding finished
-rest_finished e h = eq-eqb (length e.rest) 0 (ap length h)
+rest_finished e h = cc
 
 -- ## What the steps find stands
 
@@ -205,7 +205,7 @@ sought_found o (below n s t b u r c ps) h p q = sought_predicts o n s t r c ps (
 
 -- an entry is its rule, its origin and its rest
 same_rest : {g : Grammar} {row : List ℕ} {j : ℕ} (e : Entry) {s : List ℕ} → e.rest ≡ s → Found g row j (record { rule = e.rule; origin = e.origin; rest = s }) → Found g row j e
-same_rest {g} {row} {j} e z f = subst (λ (s : List ℕ). Found g row j (record { rule = e.rule; origin = e.origin; rest = s })) (sym z) f
+same_rest {g} {row} {j} e z f = grind arith
 
 -- 000, theorem 7, "if": what stands, the steps find
 pub stands_found : {g : Grammar} {row : List ℕ} {j : ℕ} {e : Entry} → StrictPartialOrder g.precedes → StandsByTrees g row j e → Found g row j e
