@@ -25,11 +25,11 @@ pub record Possible (g : Grammar) (j : ℕ) (e : Entry) : Type 0 where
   pub listed : Listed e.rest (members g e.rule)
 
 pub possible_fresh : (g : Grammar) (h j : ℕ) → h < rule_count g → Possible g j (fresh g h j)
-possible_fresh g h j l = record { is_rule = l; origin_le = omega arith; listed = listed_all (members g h) }
+possible_fresh g h j l = grind (arith, listed_all)
 
 -- what is taken leaves a possible entry, on any later list too
 pub possible_taking : {g : Grammar} {i : ℕ} {e : Entry} (a j : ℕ) → i ≤ j → Possible g i e → Possible g j (taking a e)
-possible_taking {g} {i} {e} a j l p = record { is_rule = p.is_rule; origin_le = omega arith; listed = listed_without a (members g e.rule) p.listed }
+possible_taking {g} {i} {e} a j l p = grind (arith, listed_without)
 
 -- what the steps find is possible
 pub found_possible : {g : Grammar} {row : List ℕ} {j : ℕ} {e : Entry} → Found g row j e → Possible g j e
