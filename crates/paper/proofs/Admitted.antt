@@ -1,23 +1,23 @@
 -- What is written of a grammar is admitted and means that grammar: the image check admits exactly such images.
 -- Assumes nothing.
-use mathlib.Core.Path.{◌≡◌, refl, sym, ◌∙◌, ap, subst, subst⁻¹}
-use mathlib.Core.Bool.{Bool, true, false, not, ◌&&◌, ◌||◌, and-eq-true_iff, or-true}
+use mathlib.Core.Path.{◌≡◌, refl, sym, ◌∙◌, ap}
+use mathlib.Core.Bool.{true, and-eq-true_iff}
 use mathlib.Core.Logic.{◌↔◌}
 use mathlib.Core.List.{List, [], ◌∷◌, ◌++◌, map}
 use Prim.Native.Nat.{ℕ, suc, ◌+◌, ◌*◌, ◌/◌, ◌%◌, ◌≤◌, ◌<◌}
 use native.Mathlib.Omega.{arith}
-use lib.Dec.{eqb, leb, ltb}
-use lib.ListN.{length, get_or, take, drop, length-append, length-map}
-use lib.Seq.{drop-drop, take-add, take-append_seam, drop-append_seam, take-length}
-use borrow.Author.Tests.{eqb-true, eq-eqb, le-leb, lt-ltb}
+use lib.Dec.{leb, ltb}
+use lib.ListN.{length, get_or, drop, length-append, length-map}
+use lib.Seq.{drop-drop, take-append_seam, drop-append_seam, take-length}
+use borrow.Author.Tests.{le-leb, lt-ltb}
 use Rattle.paper.specs.Multiset.{StrictlyAscending}
 use Rattle.paper.specs.Grammar.{Rule, rule_count, rule_at, StrictPartialOrder, IsGrammar}
 use Rattle.paper.specs.Image.{byte, offset, extent, body, contents_right, symbols_right, all_below, ascends, record_before, record_size, record_of, rule_of, record_right}
 use Rattle.paper.specs.Image.{sound, record_fault, rules_fault, rules_of, Pair, pairs_of, pair_fault, paired, chained, closing_fault, image_fault, grammar_of, image_terminals, image_symbols, image_pairs}
 use Rattle.paper.specs.Records.{record_at}
 use Rattle.paper.specs.Written.{AreBytes, rule_bytes, rules_bytes, rules_body, order_body, symbols_body, image_bytes, written, grammar_with, pair_key, RulesAscend, PairsOfSymbols, IsWritten}
-use Rattle.paper.proofs.Records.{spot_on, record_on, RightRule, RightRecords, record_bytes, record_is, record_before_lem, rules_right}
-use Rattle.paper.proofs.Order.{pair_on, closing_on, pairs_right}
+use Rattle.paper.proofs.Records.{record_on, RightRule, RightRecords, record_bytes, record_is, record_before_lem, rules_right}
+use Rattle.paper.proofs.Order.{pair_on, pairs_right}
 use Rattle.paper.proofs.Written.{image_written}
 use Rattle.paper.proofs.Image.{Admitted, admitted, admitted_number, symbols_check, RightContents, contents_check, parts_grammar, grammar_of_bodies, image_grammar, image_rule, image_count}
 

@@ -2,10 +2,9 @@
 -- Assumes nothing.
 use mathlib.Core.Path.{◌≡◌, refl, sym, ◌∙◌, ap}
 use mathlib.Core.Logic.{◌⊎◌, inl, inr, ◌↔◌, ◌≢◌}
-use Prim.Native.Nat.{ℕ, zero, suc, ◌+◌, ◌-◌, ◌*◌, ◌/◌, ◌%◌, ◌^◌, ◌≤◌, ◌<◌, min, max}
+use Prim.Native.Nat.{ℕ, zero, suc, ◌+◌, ◌-◌, ◌/◌, ◌%◌, ◌^◌, ◌≤◌, ◌<◌, min, max}
 use native.Mathlib.Omega.{arith}
 use native.Mathlib.Nat.{pow-suc, div-one}
-use native.Mathlib.Decide.{dec_lt}
 use lib.Arith.{bin_ind}
 use lib.Pow.{pow_pos, shr-shr}
 use lib.Bits.{bit_and, bit_or, and_step, or_step}
@@ -148,16 +147,10 @@ clear_lt k x e = omega (arith, bit_power_le k x e, pow_pos k)
 
 -- ## The bits that two numbers share, and those that either has
 
-and_half : (x y c : ℕ) → bit_and x y ≡ c * 2 + min (x % 2) (y % 2) → bit_and x y / 2 ≡ c
-and_half x y c e = omega arith
-
 pub bit_and_lem : (k x y : ℕ) → bit_at k (bit_and x y) ≡ min (bit_at k x) (bit_at k y)
 unfolding bit_at
 bit_and_lem zero x y = let e = and_step x y in omega arith
 bit_and_lem (suc k) x y = grind (arith, and_step, bit_and_lem k (x / 2) (y / 2))
-
-or_half : (x y c : ℕ) → bit_or x y ≡ c * 2 + max (x % 2) (y % 2) → bit_or x y / 2 ≡ c
-or_half x y c e = omega arith
 
 pub bit_or_lem : (k x y : ℕ) → bit_at k (bit_or x y) ≡ max (bit_at k x) (bit_at k y)
 unfolding bit_at
@@ -218,9 +211,6 @@ leading_clear n k x ne h l =
     bit_high (suc t.0) k x (omega (arith, t.1)) t.3
 
 -- ## How many bits are set
-
-ones_half : (x y : ℕ) → x / 2 ≡ y → ones x ≡ x % 2 + ones y
-ones_half x y e = ones_step x ∙ ap (λ z. x % 2 + ones z) e
 
 pub ones_set : (k x : ℕ) → bit_at k x ≡ 0 → ones (x + 2 ^ k) ≡ suc (ones x)
 unfolding bit_at

@@ -9,7 +9,7 @@ use Prim.Native.Nat.{ℕ, zero, suc, ◌+◌, ◌≤◌, ◌<◌}
 use native.Mathlib.Omega.{arith}
 use lib.Dec.{eqb, ltb}
 use lib.ListN.{length, get_or}
-use borrow.Author.Tests.{eqb-true, eqb-false, ltb-true, ltb-false}
+use borrow.Author.Tests.{eqb-true, eqb-false, ltb-true}
 use Rattle.paper.specs.Multiset.{StrictlyAscending}
 use Rattle.paper.specs.Building.{insert, insert_all, close}
 use Rattle.paper.proofs.Lists.{Distinct, pigeonhole}
@@ -114,16 +114,6 @@ module _ {A : Type 0} (key : A → ℕ) where
     step_climbs a true c e f low h ih = (low, (ltb-true (key x) (key y) e, h.1))
     step_climbs a false true e f low h ih = h
     step_climbs a false false e f low h ih = grind arith
-
-    step_longer : (b c : Bool) → length s ≤ length r → length (y ∷ s) ≤ length (step b c)
-    step_longer true c ih = omega arith
-    step_longer false true ih = omega arith
-    step_longer false false ih = omega arith
-
-    step_same : (b c : Bool) → length (step b c) ≡ length (y ∷ s) → (length r ≡ length s → r ≡ s) → step b c ≡ y ∷ s
-    step_same true c e ih = absurd (omega arith)
-    step_same false true e ih = refl
-    step_same false false e ih = ap (y ∷◌) (ih (omega arith))
 
   insert_keeps : {z : A} (x : A) (s : List A) → Memᴰ z s → Memᴰ z (insert key x s)
   unfolding insert

@@ -1,22 +1,20 @@
 -- An admitted image means a grammar: what each of the refusals 10 to 14 shuts out.
 -- Assumes nothing.
 use mathlib.Core.Path.{◌≡◌, refl, sym, ◌∙◌, subst⁻¹}
-use mathlib.Core.Bool.{Bool, true, false, and-eq-true_iff}
+use mathlib.Core.Bool.{true, false}
 use mathlib.Core.List.{List, [], ◌∷◌}
-use Prim.Native.Nat.{ℕ, zero, suc, ◌+◌, ◌*◌, ◌≤◌, ◌<◌}
+use Prim.Native.Nat.{ℕ, ◌+◌, ◌*◌, ◌≤◌, ◌<◌}
 use native.Mathlib.Omega.{arith}
-use lib.Dec.{ltb}
 use lib.ListN.{length, drop, length-drop, get_or-eq_default}
 use lib.Seq.{length-take-le, get_or-take, get_or-drop}
-use borrow.Author.Tests.{eqb-true, eq-eqb, le-leb, lt-ltb, leb-true, ltb-true, ltb-false}
 use Rattle.paper.specs.Grammar.{Grammar, rule_count, rule_at, StrictPartialOrder, IsGrammar}
-use Rattle.paper.specs.Image.{byte, two_bytes, kind, offset, extent, body, contents_right, symbols_right, rules_fault, pair_fault, closing_fault, Spot, sound, at}
-use Rattle.paper.specs.Image.{Fault, refuse, wrong_if, image_terminals, image_symbols, image_pairs, image_fault, grammar_of, house, pairs_of, rules_of, rule_of, paired}
+use Rattle.paper.specs.Image.{byte, kind, offset, extent, body, contents_right, symbols_right, rules_fault, pair_fault, closing_fault, sound, at}
+use Rattle.paper.specs.Image.{image_terminals, image_symbols, image_pairs, image_fault, grammar_of, house, pairs_of, rules_of, rule_of, paired}
 use Rattle.paper.specs.Image.{record_fault, record_right, ascends, all_below, record_before, chained}
 use Rattle.paper.specs.Records.{record_at}
 use Rattle.paper.specs.Written.{AreBytes}
 use Rattle.paper.proofs.Records.{rules_count, rules_at, RightRule, RightRules, record_is, rules_right, rules_unlike, records_fill, place_below}
-use Rattle.paper.proofs.Order.{written_cases, closed_order, pairs_right, pairs_few}
+use Rattle.paper.proofs.Order.{closed_order, pairs_right, pairs_few}
 
 -- The five tests that an image passes.
 pub record Admitted (b : List ℕ) : Type 0 where
@@ -25,15 +23,6 @@ pub record Admitted (b : List ℕ) : Type 0 where
   pub rules : rules_fault (image_terminals b) (image_symbols b) (body b 1) ≡ sound
   pub pairs : pair_fault (image_symbols b) 0 0 (body b 2) ≡ sound
   pub closed : closing_fault (image_pairs b) 0 (image_pairs b) ≡ sound
-
--- a refusal has a number, so where the number is 0 nothing is at fault
-passed : (n : ℕ) (spot : Spot) (next : Fault) → (refuse (suc n) spot next).number ≡ 0 → (spot ≡ sound) × (next.number ≡ 0)
-passed n sound next h = (refl, h)
-passed n (at k) next h = absurd (omega arith)
-
-right_is : (right : Bool) → wrong_if right ≡ sound → right ≡ true
-right_is true h = refl
-right_is false h = cc
 
 -- What `symbols_right` says.
 pub record RightSymbols (s : List ℕ) : Type 0 where
@@ -175,13 +164,6 @@ pub image_rule : (b : List ℕ) (h : ℕ) → h < byte (body b 1) 0 → rule_at 
 unfolding grammar_of
 image_rule b h l = grind (arith, rules_at)
 
--- each body lies inside the image
-pub body_inside : (b : List ℕ) → RightContents b → (k : ℕ) → k < 3 → offset b k + extent b k ≤ length b
-body_inside b c zero l = omega arith
-body_inside b c (suc zero) l = omega arith
-body_inside b c (suc (suc zero)) l = omega arith
-body_inside b c (suc (suc (suc k))) l = absurd (omega arith)
-
 -- and has the length that its entry tells
 pub body_length : (b : List ℕ) → RightContents b → (k : ℕ) → k < 3 → length (body b k) ≡ extent b k
 body_length b c k l = grind (arith, length-take-le, length-drop)
@@ -193,10 +175,6 @@ body_byte b k i l = grind (arith, get_or-take, get_or-drop)
 -- a byte, and so is the 0 past the end
 pub byte_below : (b : List ℕ) → AreBytes b → (k : ℕ) → byte b k < 256
 byte_below b h k = grind (arith, get_or-eq_default)
-
--- an offset or a length is below 65,536
-pub two_bytes_below : (b : List ℕ) → AreBytes b → (k : ℕ) → two_bytes b k < 65536
-two_bytes_below b h k = grind (arith, byte_below)
 
 -- an image whose contents are right ends where the last offset and length say
 pub contents_length : (b : List ℕ) → AreBytes b → RightContents b → length b ≤ 131070

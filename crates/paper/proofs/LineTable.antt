@@ -9,7 +9,7 @@ use lib.ListN.{length, length-append}
 use Rattle.paper.specs.Multiset.{Arrangement}
 use Rattle.paper.specs.Grammar.{Grammar, IsGrammar, rule_count, left, members}
 use Rattle.paper.specs.Derivation.{Acceptable}
-use Rattle.paper.specs.Lines.{line_size, line_rule, line_from, line_to, line_parts, line_symbol, Joins, LineRight, Uses}
+use Rattle.paper.specs.Lines.{line_size, line_from, line_to, line_parts, line_symbol, Joins, LineRight, Uses}
 use Rattle.paper.proofs.Multiset.{arranged_length}
 use Rattle.paper.proofs.LineNumbers.{Extends, extends_append, kept, line_of, line_length, reads_back}
 
@@ -112,10 +112,6 @@ used_kept {n = n} m is t d b u =
       below = omega arith;
       uses = record { slot = v.slot; is_part = rw same.parts v.is_part; names = same.slot v.slot (omega (arith, v.is_part)) ∙ v.names };
     }
-
--- a line among the first n + 1 that is not among the first n is line n
-newest : {g : Grammar} {ns : List ℕ} {n a i j : ℕ} → (HasLine g ns n a i j → ⊥) → (h : HasLine g ns (suc n) a i j) → h.line ≡ n
-newest {n = n} none h = grind arith
 
 -- one line more to look at
 find_step : {g : Grammar} {ns : List ℕ} {n a i j : ℕ} → Dec (HasLine g ns n a i j) → Dec (line_symbol g ns n ≡ a) → Dec (line_from ns n ≡ i) → Dec (line_to ns n ≡ j)

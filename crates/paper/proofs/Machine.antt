@@ -1,14 +1,13 @@
 -- The laws of taking: what the rest of a rule lets be taken, and that what is taken in turn is acceptable. They are all that others need of the order.
 -- Assumes nothing.
 use mathlib.Core.Path.{◌≡◌, refl}
-use mathlib.Core.Bool.{Bool, true, false, not, ◌&&◌, ◌||◌}
+use mathlib.Core.Bool.{Bool, true, false, ◌&&◌, ◌||◌}
 use mathlib.Core.Logic.{◌↔◌}
 use mathlib.Core.List.{List, [], ◌∷◌, ◌++◌}
 use Prim.Native.Nat.{ℕ, zero, suc, ◌<◌}
 use native.Mathlib.Omega.{arith}
-use lib.Dec.{eqb}
 use lib.ListN.{length, get_or, length-append, get_or-append}
-use borrow.Author.Tests.{eqb-true, eq-eqb, not-true}
+use borrow.Author.Tests.{eq-eqb}
 use Rattle.paper.specs.Multiset.{Arrangement, has, without, minus}
 use Rattle.paper.specs.Grammar.{Grammar, StrictPartialOrder}
 use Rattle.paper.specs.Derivation.{Acceptable}
@@ -17,24 +16,12 @@ use Rattle.paper.proofs.Multiset.{has_count, count_has, arranged_refl, arranged_
 
 -- ## Tests
 
-or_left : (x y : Bool) → (x || y) ≡ false → x ≡ false
-or_left true y h = h
-or_left false y h = refl
-
 or_right : (x y : Bool) → (x || y) ≡ false → y ≡ false
 or_right true y h = cc
 or_right false y h = h
 
 neither : (x y : Bool) → x ≡ false → y ≡ false → (x || y) ≡ false
 neither x y e f = rw (e, f)
-
-pub and_left : (x y : Bool) → (x && y) ≡ true → x ≡ true
-and_left true y h = refl
-and_left false y h = h
-
-pub and_right : (x y : Bool) → (x && y) ≡ true → y ≡ true
-and_right true y h = h
-and_right false y h = cc
 
 both : (x y : Bool) → x ≡ true → y ≡ true → (x && y) ≡ true
 both x y e f = rw (e, f)

@@ -7,12 +7,11 @@ use Prim.Native.Nat.{ℕ, zero, suc, ◌+◌, ◌*◌, ◌≤◌, ◌<◌}
 use native.Mathlib.Omega.{arith}
 use lib.Dec.{eqb, leb, ltb}
 use lib.ListN.{length, get_or, length-map}
-use borrow.Author.Tests.{eqb-true, eqb-false, eq-eqb, ne_eqb, leb-true, le-leb, ltb-true, lt-ltb, not-true}
+use borrow.Author.Tests.{eq-eqb}
 use Rattle.paper.specs.Multiset.{StrictlyAscending}
 use Rattle.paper.specs.Grammar.{StrictPartialOrder}
 use Rattle.paper.specs.Image.{byte, sound, at, Pair, pairs_of, pair_fault, paired, chained, closing_fault}
 use Rattle.paper.specs.Written.{pair_key}
-use Rattle.paper.proofs.Records.{goes_on, spot_on, spot_here}
 
 -- One step of the search for a fault: on past a pair that is right, or no further.
 
@@ -25,11 +24,6 @@ pub pair_stop : (symbols k least a b : ℕ) (s : List ℕ) → (ltb a symbols &&
     → pair_fault symbols k least (a ∷ b ∷ s) ≡ at k
 unfolding pair_fault
 pair_stop symbols k least a b s wrong = cc
-
-pub closing_on : (pairs : List Pair) (k : ℕ) (p : Pair) (more : List Pair) → (p.earlier ≡ p.later → ⊥) → chained pairs p.earlier p.later pairs ≡ true
-    → closing_fault pairs k (p ∷ more) ≡ closing_fault pairs (suc k) more
-unfolding closing_fault
-closing_on pairs k p more ne h = grind arith
 
 pub closing_stop : (pairs : List Pair) (k : ℕ) (p : Pair) (more : List Pair) → (not (eqb p.earlier p.later) && chained pairs p.earlier p.later pairs) ≡ false
     → closing_fault pairs k (p ∷ more) ≡ at k

@@ -1,15 +1,14 @@
 -- Laws of the rules body: the record of rule h, what a sound body says of it, and that no two records are equal.
 -- Assumes nothing.
 use mathlib.Core.Path.{◌≡◌, refl, sym, ◌∙◌, ap}
-use mathlib.Core.Bool.{Bool, true, false, ◌&&◌, ◌||◌, and-eq-true_iff}
+use mathlib.Core.Bool.{Bool, true, false, ◌&&◌, and-eq-true_iff}
 use mathlib.Core.List.{List, [], ◌∷◌}
-use mathlib.Core.Logic.{◌⊎◌, inl, inr}
 use Prim.Native.Nat.{ℕ, zero, suc, ◌+◌, ◌-◌, ◌*◌, ◌≤◌, ◌<◌}
 use native.Mathlib.Omega.{arith}
-use lib.Dec.{eqb, leb, ltb}
+use lib.Dec.{eqb, leb}
 use lib.ListN.{length, get_or, take, drop, length-drop}
 use lib.Seq.{drop-drop, take-add, length-take-le}
-use borrow.Author.Tests.{eqb-true, eqb-false, eq-eqb, leb-true, ltb-true, lt-ltb}
+use borrow.Author.Tests.{eqb-true, leb-true, ltb-true}
 use Rattle.paper.specs.Multiset.{Ascending}
 use Rattle.paper.specs.Grammar.{Rule}
 use Rattle.paper.specs.Image.{byte, all_below, ascends, record_before, record_size, record_of, rule_of, record_right, Spot, sound, at, record_fault, rules_fault, rules_of}
@@ -143,25 +142,6 @@ record_bytes (a ∷ b ∷ s) h =
     take-add 2 b (a ∷ b ∷ s) ∙ ap {B = List ℕ} (λ n. a ∷ n ∷ take b s) (sym e)
 
 -- The order of records.
-
-before_cases : (a b : ℕ) (s t : List ℕ) → record_before (a ∷ s) (b ∷ t) ≡ true → (a < b) ⊎ ((a ≡ b) × (record_before s t ≡ true))
-unfolding record_before
-before_cases a b s t h = grind arith
-
-before_less : (a b : ℕ) (s t : List ℕ) → a < b → record_before (a ∷ s) (b ∷ t) ≡ true
-unfolding record_before
-before_less a b s t l = rw (lt-ltb a b l)
-
-before_same : (a b : ℕ) (s t : List ℕ) → a ≡ b → record_before s t ≡ true → record_before (a ∷ s) (b ∷ t) ≡ true
-unfolding record_before
-before_same a b s t e h = grind arith
-
-before_step : (a b c : ℕ) (s t u : List ℕ) → (record_before s t ≡ true → record_before t u ≡ true → record_before s u ≡ true)
-    → (a < b) ⊎ ((a ≡ b) × (record_before s t ≡ true)) → (b < c) ⊎ ((b ≡ c) × (record_before t u ≡ true)) → record_before (a ∷ s) (c ∷ u) ≡ true
-before_step a b c s t u ih (inl p) (inl q) = before_less a c s u (omega arith)
-before_step a b c s t u ih (inl p) (inr q) = before_less a c s u (omega arith)
-before_step a b c s t u ih (inr p) (inl q) = before_less a c s u (omega arith)
-before_step a b c s t u ih (inr p) (inr q) = before_same a c s u (p.0 ∙ q.0) (ih p.1 q.1)
 
 before_trans : (s t u : List ℕ) → record_before s t ≡ true → record_before t u ≡ true → record_before s u ≡ true
 unfolding record_before

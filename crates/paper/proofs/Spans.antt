@@ -8,14 +8,14 @@ use mathlib.Core.List.Memᴰ
 use mathlib.Core.List.{List, [], ◌∷◌, ◌++◌, map, Memᴰ}
 use Prim.Native.Nat.{ℕ, zero, suc, ◌+◌, ◌-◌, ◌*◌, max, ◌≤◌, ◌<◌}
 use native.Mathlib.Omega.{arith}
-use native.Mathlib.Nat.{suc-mul, mul_comm, mul-le-mul_left}
+use native.Mathlib.Nat.{mul-le-mul_left}
 use lib.Dec.{eqb, ltb}
-use lib.ListN.{length, get_or, drop, length-append, length-map}
+use lib.ListN.{length, get_or, length-append, length-map}
 use lib.Seq.{get_or-take, get_or-drop}
 use borrow.Author.Tests.{eqb-true, eqb-false, ltb-true, ltb-false}
 use Rattle.paper.specs.Grammar.{Grammar, IsGrammar}
 use Rattle.paper.specs.Price.{lines_bound}
-use Rattle.paper.specs.Lines.{line_size, line_count, line_from, line_to, line_parts, part_slots, line_symbol, Joins, LineRight, Uses, Valid}
+use Rattle.paper.specs.Lines.{line_count, line_from, line_to, part_slots, line_symbol, Joins, LineRight, Uses, Valid}
 use Rattle.paper.proofs.Lists.{Distinct, pigeonhole}
 use Rattle.paper.proofs.Lines.{earlier_first}
 

@@ -6,7 +6,7 @@ use Prim.Native.Nat.{ℕ}
 use native.Mathlib.Omega.{arith}
 use lib.ListN.{length}
 use lib.Seq.{take-length}
-use Rattle.paper.specs.Grammar.{Grammar, left, StrictPartialOrder, IsRow}
+use Rattle.paper.specs.Grammar.{Grammar, StrictPartialOrder, IsRow}
 use Rattle.paper.specs.Derivation.{InLanguage}
 use Rattle.paper.specs.Tree.{Tree}
 use Rattle.paper.specs.Entry.{Entry, Stands, Found}

@@ -10,7 +10,7 @@ use native.Mathlib.Omega.{arith}
 use native.Mathlib.Decide.{dec_le, ℕ_discrete}
 use lib.Dec.{eqb}
 use lib.ListN.{length, get_or}
-use borrow.Author.Tests.{eqb-true, eqb-false, eq-eqb, ne_eqb}
+use borrow.Author.Tests.{eqb-false, eq-eqb}
 use Rattle.paper.specs.Multiset.{bit, count, Arrangement, has, without, minus, keep, sub_multisets}
 use Rattle.paper.proofs.Multiset.{count_self, count_other, count_has, count_without, arranged_cons, arranged_uncons, arranged_sym, arranged_trans, arranged_without}
 use Rattle.paper.proofs.Lists.{mem_keep, keep_mem, map_mem, place_mem, Distinct, distinct_append, distinct_places, distinct_keep, distinct_map}

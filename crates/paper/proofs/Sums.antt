@@ -2,12 +2,12 @@
 -- Assumes nothing.
 use mathlib.Core.Path.{◌≡◌, refl, sym, ◌∙◌, ap}
 use mathlib.Core.Logic.{◌⊎◌, inl, inr}
-use mathlib.Core.Bool.{Bool, true, false, cond}
+use mathlib.Core.Bool.{Bool, true, false}
 use mathlib.Core.List.Memᴰ
 use mathlib.Core.List.{List, [], ◌∷◌, ◌++◌, Memᴰ, map, flat_map}
 use Prim.Native.Nat.{ℕ, zero, suc, ◌+◌, ◌*◌, ◌≤◌, ◌<◌}
 use native.Mathlib.Omega.{arith}
-use native.Mathlib.Nat.{mul-zero, zero-mul, mul-suc, suc-mul, mul-add, add-mul, mul_assoc, mul_comm, mul-one}
+use native.Mathlib.Nat.{mul-zero, zero-mul, suc-mul, add-mul, mul-one}
 use lib.ListN.{length, get_or}
 use Rattle.paper.specs.Multiset.{bit, keep}
 use Rattle.paper.specs.Sheet.{sum, many, sum_below}

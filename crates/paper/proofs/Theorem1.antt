@@ -1,14 +1,13 @@
 -- The sheet exists, and 000's theorem 1: a row has a top exactly if it is in the language.
 -- Assumes nothing.
-use mathlib.Core.Path.{◌≡◌, refl, sym, ◌∙◌, subst₂}
+use mathlib.Core.Path.{◌≡◌, refl, sym, subst₂}
 use mathlib.Core.Logic.{◌↔◌}
-use mathlib.Core.Bool.{true, ◌&&◌}
+use mathlib.Core.Bool.{true}
 use mathlib.Core.List.{List, [], ◌++◌, append-nil}
 use Prim.Native.Nat.{ℕ, ◌≤◌, ◌<◌}
 use native.Mathlib.Omega.{arith}
-use lib.Dec.{eqb}
 use lib.ListN.{length}
-use borrow.Author.Tests.{eqb-true, eq-eqb}
+use borrow.Author.Tests.{eq-eqb}
 use Rattle.paper.specs.Multiset.{Arrangement, minus}
 use Rattle.paper.specs.Grammar.{Grammar, IsGrammar, IsRow, rule_count, left, members}
 use Rattle.paper.specs.Derivation.{Acceptable, InLanguage}
@@ -17,7 +16,7 @@ use Rattle.paper.specs.Entry.{Entry, Stands, finished}
 use Rattle.paper.specs.Sheet.{Sheet, list_at, IsSheet, is_top, tops}
 use Rattle.paper.specs.Building.{sheet_of}
 use Rattle.paper.proofs.Multiset.{arranged_refl, arranged_sym, arranged_nil}
-use Rattle.paper.proofs.Machine.{and_left, and_right, arranged_minus}
+use Rattle.paper.proofs.Machine.{arranged_minus}
 use Rattle.paper.proofs.Theorem7.{finished_rest, finished_tree}
 use Rattle.paper.proofs.Standing.{stands_by_trees, theorem_7, language_tree}
 use Rattle.paper.proofs.Building.{sheet_lists, sheet_ascending, sheet_found}

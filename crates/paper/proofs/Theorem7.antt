@@ -1,12 +1,12 @@
 -- 000, theorem 7, over trees: the steps find an entry exactly if it stands.
 -- Assumes nothing.
-use mathlib.Core.Path.{◌≡◌, refl, sym, ◌∙◌, ap, subst}
+use mathlib.Core.Path.{◌≡◌, refl, sym, ◌∙◌, ap}
 use mathlib.Core.Bool.{true}
 use mathlib.Core.List.{List, [], ◌∷◌, ◌++◌, append-nil, append_assoc}
 use Prim.Native.Nat.{ℕ, suc, ◌≤◌, ◌<◌}
 use native.Mathlib.Omega.{arith}
 use lib.ListN.{length, get_or}
-use borrow.Author.Tests.{eqb-true, eq-eqb}
+use borrow.Author.Tests.{eqb-true}
 use Rattle.paper.specs.Multiset.{Arrangement, without, minus}
 use Rattle.paper.specs.Grammar.{Grammar, rule_count, left, members, StrictPartialOrder}
 use Rattle.paper.specs.Derivation.{Acceptable}

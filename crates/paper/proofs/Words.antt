@@ -6,17 +6,15 @@ use mathlib.Core.Bool.{cond}
 use mathlib.Core.List.{List, [], ◌∷◌}
 use Prim.Native.Nat.{ℕ, ◌+◌, ◌*◌, ◌^◌, ◌/◌, ◌%◌, ◌≤◌, ◌<◌}
 use native.Mathlib.Omega.{arith}
-use native.Mathlib.Nat.{pow-suc, pow-le-pow_right}
-use native.Mathlib.Decide.{ℕ_discrete}
-use lib.Dec.{eqb, leb}
+use native.Mathlib.Nat.{pow-le-pow_right}
+use lib.Dec.{eqb}
 use lib.ListN.{length}
 use lib.Count.{ones, ones_in, ones_step}
-use borrow.Author.Tests.{le-leb, lt-leb}
 use Rattle.paper.specs.Multiset.{count, minus}
 use Rattle.paper.specs.Grammar.{Grammar, IsGrammar, rule_count, members}
 use Rattle.paper.specs.Entry.{Entry}
 use Rattle.paper.specs.Sheet.{mask, word, rest_of, entry_of}
-use Rattle.paper.proofs.Multiset.{count_self, count_other, bit_le}
+use Rattle.paper.proofs.Multiset.{count_self, count_other}
 use Rattle.paper.proofs.SubMultisets.{Listed, Present, listed_cases, listed_nil, listed_count, listed_minus}
 
 -- ---- masks
@@ -92,19 +90,6 @@ ones_mask (a ∷ s) {r} m = go (listed_cases a s m) (λ q n. ones_mask s n)
 -- A mask is a byte.
 pub mask_byte : (g : Grammar) → IsGrammar g → (h : ℕ) (rest : List ℕ) → h < rule_count g → mask (members g h) rest < 256
 mask_byte g is h rest l = grind (arith, pow-le-pow_right, mask_below)
-
-same_entry : (e f : Entry) → e.rule ≡ f.rule → e.origin ≡ f.origin → e.rest ≡ f.rest → e ≡ f
-same_entry e f p q r = grind arith
-
--- the parts of a word: rule, origin and a byte
-word_rule : (h i b : ℕ) → i < 256 → b < 256 → (h * 65536 + i * 256 + b) / 65536 ≡ h
-word_rule h i b l k = omega arith
-
-word_origin : (h i b : ℕ) → i < 256 → b < 256 → (h * 65536 + i * 256 + b) / 256 % 256 ≡ i
-word_origin h i b l k = omega arith
-
-word_byte : (h i b : ℕ) → i < 256 → b < 256 → (h * 65536 + i * 256 + b) % 256 ≡ b
-word_byte h i b l k = omega arith
 
 module _ (g : Grammar) (is : IsGrammar g) where
   -- the word is read back as the entry that it is of

@@ -46,10 +46,6 @@ record Growth (g : Grammar) (row : List ℕ) (f : ℕ) (before : List ℕ) (n : 
 no_growth : {g : Grammar} {row ns : List ℕ} {n f : ℕ} → Table g row ns n → Growth g row f ns n ns n
 no_growth {ns = ns} t = grind (arith, extends_refl)
 
--- a bound on heights may be raised
-higher : {g : Grammar} {row : List ℕ} {f a i j : ℕ} → LowTree g row f a i j → LowTree g row (suc f) a i j
-higher t = grind arith
-
 growth_higher : {g : Grammar} {row before after : List ℕ} {n count f : ℕ} → Growth g row f before n after count → Growth g row (suc f) before n after count
 growth_higher w = grind arith
 

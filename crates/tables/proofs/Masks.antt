@@ -7,13 +7,13 @@ use mathlib.Core.List.{List, [], ◌∷◌, ◌++◌}
 use Prim.Native.Nat.{ℕ, zero, suc, ◌+◌, ◌-◌, ◌*◌, ◌/◌, ◌%◌, ◌^◌, ◌≤◌, ◌<◌}
 use native.Mathlib.Omega.{arith}
 use native.Mathlib.Nat.{pow-suc, pow-le-pow_right}
-use native.Mathlib.Decide.{dec_lt, ℕ_discrete}
+use native.Mathlib.Decide.{ℕ_discrete}
 use lib.Dec.{eqb, leb, ltb}
 use lib.ListN.{length, get_or, drop}
 use lib.Pow.{pow_pos}
 use lib.Bits.{bit_and}
 use lib.Count.{ones}
-use borrow.Author.Tests.{eqb-true, eq-eqb, ne_eqb, leb-true, le-leb, lt-ltb, ltb-true}
+use borrow.Author.Tests.{eq-eqb, ne_eqb}
 use Rattle.paper.specs.Bits.{bit_at}
 use Rattle.paper.specs.Multiset.{bit, count, Arrangement, has, without, minus}
 use Rattle.paper.specs.Grammar.{Grammar, IsGrammar, rule_count, members}
@@ -30,15 +30,8 @@ use Rattle.tables.specs.Masks.{Proper, Takeable, LastFound, TakenFrom, entry_wit
 
 -- ## A number with the bit b below n
 
-lowest : (b : Bool) (n : ℕ) → (bit b + 2 * n) % 2 ≡ bit b
-lowest b n = omega (arith, bit_le b)
-
 others : (b : Bool) (n : ℕ) → (bit b + 2 * n) / 2 ≡ n
 others b n = omega (arith, bit_le b)
-
-bit_true : (b : Bool) → bit b ≡ 1 → b ≡ true
-bit_true true e = refl
-bit_true false e = absurd (omega arith)
 
 -- ## The rest that a byte tells
 
@@ -237,19 +230,6 @@ bars_bit g a k x [] j l = absurd (omega arith)
 bars_bit g a k x (b ∷ s) zero l = grind arith
 bars_bit g a k x (b ∷ s) (suc j) l = grind (arith, bars_bit g a k (suc x) s j (omega arith))
 
-barring : (x y z : Bool) → bit (x || (y && z)) ≡ 1 → (x ≡ true) ⊎ ((y ≡ true) × (z ≡ true))
-barring true y z e = inl refl
-barring false true true e = inr (refl, refl)
-barring false true false e = absurd (omega arith)
-barring false false z e = absurd (omega arith)
-
-barring_equal : (x : Bool) → bit (x || (true && true)) ≡ 1
-barring_equal true = refl
-barring_equal false = refl
-
-bars_test : (x : Bool) (j k b a : ℕ) → (bit (x || (ltb (0 + j) k && eqb b a)) ≡ 1) ↔ ((x ≡ true) ⊎ ((j < k) × (b ≡ a)))
-bars_test x j k b a = grind arith
-
 -- member j bars member k exactly if it must precede it, or is equal and written before it
 pub bars_exactly : (g : Grammar) (s : List ℕ) (k j : ℕ) → j < length s
     → (bit_at j (bars_of g s k) ≡ 1) ↔ ((g.precedes (get_or s j 0) (get_or s k 0) ≡ true) ⊎ ((j < k) × (get_or s j 0 ≡ get_or s k 0)))
@@ -407,9 +387,6 @@ take_last {g} {s} {m} {k} p t = record {
 pub back_may : (g : Grammar) {s : List ℕ} {m a k : ℕ} → Proper s m → LastFound s m a k
     → (may_take g a (rest_of s (m + 2 ^ k)) ≡ true) ↔ (bit_and (m + 2 ^ k) (bars_of g s k) ≡ 0)
 back_may g {s} {m} {a} {k} p x = grind (arith, may_back, may, back_earlier, takeable_first, set_here)
-
-last_cast : {s : List ℕ} {n m b a k : ℕ} → n ≡ m → b ≡ a → LastFound s n b k → LastFound s m a k
-last_cast {s} {n} {m} {b} {a} {k} e f x = rw (← e, ← f) x
 
 -- a is taken from n, which becomes m, exactly if n is m with the last found member equal to a put back, and no member that bars it is left
 pub taken_exactly : (g : Grammar) (s : List ℕ) (a n m : ℕ) → Proper s m
