@@ -7,8 +7,9 @@ use native.Mathlib.Omega.{arith}
 use native.Mathlib.Nat.{pow-suc, div-one}
 use lib.Arith.{bin_ind}
 use lib.Pow.{pow_pos, shr-shr}
-use lib.Bits.{bit_and, bit_or, and_step, or_step}
+use lib.Bits.{bit_and, bit_or}
 use lib.Count.{ones, count_leading_zeros, count_trailing_zeros, under, ones_step, leading_top}
+use Rattle.std.proofs.lemmas.Nat.Bits.{bit_at-zero, bit_at_and, bit_at_or, bit_at_ones, bit_at_above, same_from_bits, same_from_bits_below}
 use Rattle.paper.specs.Bits.{bit_at}
 
 -- ## One bit
@@ -21,20 +22,14 @@ bit_at_lem (suc k) x =
     bit_at_lem k (x / 2) ∙ ap (λ y. y % 2) (shr-shr x 1 k ∙ ap (λ n. x / 2 ^ n) e)
 
 pub bit_lt : (k x : ℕ) → bit_at k x < 2
-unfolding bit_at
-bit_lt zero x = omega arith
-bit_lt (suc k) x = bit_lt k (x / 2)
+bit_lt k x = omega (arith, bit_at_lem k x)
 
 pub bit_cases : (k x : ℕ) → (bit_at k x ≡ 0) ⊎ (bit_at k x ≡ 1)
 bit_cases k x = grind (arith, bit_lt)
 
 -- a number below 2 ^ n has no bit from n on
 pub bit_high : (n k x : ℕ) → n ≤ k → x < 2 ^ n → bit_at k x ≡ 0
-unfolding bit_at
-bit_high zero zero x l h = omega arith
-bit_high zero (suc k) x l h = bit_high zero k (x / 2) (omega arith) (omega arith)
-bit_high (suc n) zero x l h = absurd (omega arith)
-bit_high (suc n) (suc k) x l h = bit_high n k (x / 2) (omega arith) (omega (arith, pow-suc 2 n))
+bit_high n k x l h = bit_at_lem k x ∙ bit_at_above x n k h l
 
 pub bit_place : (n k x : ℕ) → x < 2 ^ n → bit_at k x ≡ 1 → k < n
 bit_place n k x h e = grind (arith, bit_high)
@@ -55,13 +50,10 @@ bit_top (suc j) x l h = bit_top j (x / 2) (omega (arith, pow-suc 2 j)) (omega (a
 
 -- a number with no bit set is 0
 pub bits_none : (x : ℕ) → ((k : ℕ) → bit_at k x ≡ 0) → x ≡ 0
-unfolding bit_at
-bits_none = bin_ind (λ x. ((k : ℕ) → bit_at k x ≡ 0) → x ≡ 0) (λ f. refl) (λ x ih f. omega (arith, ih (λ k. f (suc k)), f 0))
+bits_none x f = same_from_bits x 0 (λ k. sym (bit_at_lem k x) ∙ (f k ∙ sym (bit_at-zero k)))
 
 pub bit_zero : (k : ℕ) → bit_at k 0 ≡ 0
-unfolding bit_at
-bit_zero zero = refl
-bit_zero (suc k) = bit_zero k
+bit_zero k = bit_at_lem k 0 ∙ bit_at-zero k
 
 -- x is 0 exactly if no bit is set
 pub zero_bits : (x : ℕ) → (x ≡ 0) ↔ ((k : ℕ) → bit_at k x ≡ 0)
@@ -69,18 +61,11 @@ zero_bits x = (λ e k. ap (bit_at k) e ∙ bit_zero k, bits_none x)
 
 -- numbers below 2 ^ n with equal bits below n are equal
 pub bits_same : (n x y : ℕ) → x < 2 ^ n → y < 2 ^ n → ((k : ℕ) → k < n → bit_at k x ≡ bit_at k y) → x ≡ y
-unfolding bit_at
-bits_same zero x y h l f = omega arith
-bits_same (suc n) x y h l f =
-    let e : x / 2 ≡ y / 2 = bits_same n (x / 2) (y / 2) (omega (arith, pow-suc 2 n)) (omega (arith, pow-suc 2 n)) (λ k i. f (suc k) (omega arith)) in
-    omega (arith, f 0 (omega arith))
+bits_same n x y h l f = same_from_bits_below n x y h l (λ k i. sym (bit_at_lem k x) ∙ (f k i ∙ bit_at_lem k y))
 
 -- every bit below n of 2 ^ n - 1 is set
 pub bit_ones : (n k : ℕ) → k < n → bit_at k (2 ^ n - 1) ≡ 1
-unfolding bit_at
-bit_ones zero k l = absurd (omega arith)
-bit_ones (suc n) zero l = omega (arith, pow-suc 2 n, pow_pos n)
-bit_ones (suc n) (suc k) l = grind (arith, bit_ones n k (omega arith))
+bit_ones n k l = bit_at_lem k (2 ^ n - 1) ∙ bit_at_ones n k l
 
 -- any other number below 2 ^ n has a clear bit there
 pub clear_exists : (n x : ℕ) → x < 2 ^ n → x ≢ 2 ^ n - 1 → (k : ℕ) × (k < n) × (bit_at k x ≡ 0)
@@ -148,14 +133,10 @@ clear_lt k x e = omega (arith, bit_power_le k x e, pow_pos k)
 -- ## The bits that two numbers share, and those that either has
 
 pub bit_and_lem : (k x y : ℕ) → bit_at k (bit_and x y) ≡ min (bit_at k x) (bit_at k y)
-unfolding bit_at
-bit_and_lem zero x y = let e = and_step x y in omega arith
-bit_and_lem (suc k) x y = grind (arith, and_step, bit_and_lem k (x / 2) (y / 2))
+bit_and_lem k x y = rw (bit_at_lem k (bit_and x y), bit_at_lem k x, bit_at_lem k y) (bit_at_and x y k)
 
 pub bit_or_lem : (k x y : ℕ) → bit_at k (bit_or x y) ≡ max (bit_at k x) (bit_at k y)
-unfolding bit_at
-bit_or_lem zero x y = let e = or_step x y in omega arith
-bit_or_lem (suc k) x y = grind (arith, or_step, bit_or_lem k (x / 2) (y / 2))
+bit_or_lem k x y = rw (bit_at_lem k (bit_or x y), bit_at_lem k x, bit_at_lem k y) (bit_at_or x y k)
 
 -- bit k is in both exactly if it is in the numbers' `and`
 pub and_set : (k x y : ℕ) → (bit_at k (bit_and x y) ≡ 1) ↔ ((bit_at k x ≡ 1) × (bit_at k y ≡ 1))
