@@ -1,13 +1,14 @@
 -- The laws of taking: what the rest of a rule lets be taken, and that what is taken in turn is acceptable. They are all that others need of the order.
 -- Assumes nothing.
 use mathlib.Core.Path.{◌≡◌, refl}
-use mathlib.Core.Bool.{Bool, true, false, ◌&&◌, ◌||◌}
+use mathlib.Core.Bool.{Bool, true, false, ◌&&◌}
 use mathlib.Core.Logic.{◌↔◌}
 use mathlib.Core.List.{List, [], ◌∷◌, ◌++◌}
 use Prim.Native.Nat.{ℕ, zero, suc, ◌<◌}
 use native.Mathlib.Omega.{arith}
 use lib.ListN.{length, get_or, length-append, get_or-append}
 use borrow.Author.Tests.{eq-eqb}
+use Rattle.std.proofs.lemmas.Bool.{and_from, or_from, or_parts, both_ways}
 use Rattle.paper.specs.Multiset.{Arrangement, has, without, minus}
 use Rattle.paper.specs.Grammar.{Grammar, StrictPartialOrder}
 use Rattle.paper.specs.Derivation.{Acceptable}
@@ -15,19 +16,6 @@ use Rattle.paper.specs.Entry.{barred, may_take}
 use Rattle.paper.proofs.Multiset.{has_count, count_has, arranged_refl, arranged_sym, arranged_trans, arranged_cons, arranged_uncons, arranged_without, arranged_append, arranged_swap}
 
 -- ## Tests
-
-or_right : (x y : Bool) → (x || y) ≡ false → y ≡ false
-or_right true y h = cc
-or_right false y h = h
-
-neither : (x y : Bool) → x ≡ false → y ≡ false → (x || y) ≡ false
-neither x y e f = rw (e, f)
-
-both : (x y : Bool) → x ≡ true → y ≡ true → (x && y) ≡ true
-both x y e f = rw (e, f)
-
-unlike : {x : Bool} → x ≡ true → x ≡ false → ⊥
-unlike h k = cc
 
 -- ## What stands in a list
 
@@ -52,12 +40,12 @@ has_arranged a {s} {t} h m = count_has a t (omega (arith, h.counts a, has_count 
 pub unbarred_each : (g : Grammar) (a b : ℕ) (s : List ℕ) → barred g a s ≡ false → has b s ≡ true → g.precedes b a ≡ false
 unfolding barred has
 unbarred_each g a b [] h m = cc
-unbarred_each g a b (c ∷ s) h m = grind (arith, unbarred_each g a b s (or_right (g.precedes c a) (barred g a s) h))
+unbarred_each g a b (c ∷ s) h m = grind (arith, unbarred_each g a b s (or_parts (g.precedes c a) (barred g a s) h).1)
 
 pub unbarred_places : (g : Grammar) (a : ℕ) (s : List ℕ) → ((k : ℕ) → k < length s → g.precedes (get_or s k 0) a ≡ false) → barred g a s ≡ false
 unfolding barred
 unbarred_places g a [] f = refl
-unbarred_places g a (b ∷ s) f = neither (g.precedes b a) (barred g a s) (f 0 (omega arith)) (unbarred_places g a s (λ k h. f (suc k) (omega arith)))
+unbarred_places g a (b ∷ s) f = or_from (g.precedes b a) (barred g a s) (f 0 (omega arith)) (unbarred_places g a s (λ k h. f (suc k) (omega arith)))
 
 pub each_unbarred : (g : Grammar) (a : ℕ) (s : List ℕ) → ((b : ℕ) → has b s ≡ true → g.precedes b a ≡ false) → barred g a s ≡ false
 each_unbarred g a s f = unbarred_places g a s (λ k h. f (get_or s k 0) (has_place s k h))
@@ -72,11 +60,11 @@ unbarred_nil g a = refl
 
 pub unbarred_cons : (g : Grammar) (a b : ℕ) (s : List ℕ) → g.precedes b a ≡ false → barred g a s ≡ false → barred g a (b ∷ s) ≡ false
 unfolding barred
-unbarred_cons g a b s = neither (g.precedes b a) (barred g a s)
+unbarred_cons g a b s = or_from (g.precedes b a) (barred g a s)
 
 pub unbarred_tail : (g : Grammar) (a b : ℕ) (s : List ℕ) → barred g a (b ∷ s) ≡ false → barred g a s ≡ false
 unfolding barred
-unbarred_tail g a b s = or_right (g.precedes b a) (barred g a s)
+unbarred_tail g a b s h = (or_parts (g.precedes b a) (barred g a s) h).1
 
 -- ## Acceptable
 
@@ -131,7 +119,7 @@ inserted_front {g} o b c t h e =
     head_free = unbarred_cons g c c t (o.irreflexive c) (acceptable_head h)
 
     decide : (d : ℕ) (x : Bool) → g.precedes d b ≡ x → g.precedes d c ≡ false → x ≡ false
-    decide d true f k = absurd (unlike (o.transitive d b c f e) k)
+    decide d true f k = absurd (both_ways (g.precedes d c) k (o.transitive d b c f e))
     decide d false f k = refl
 
     free : (d : ℕ) → has d (c ∷ t) ≡ true → g.precedes d b ≡ false
@@ -213,7 +201,7 @@ pub front_taken : {g : Grammar} → StrictPartialOrder g.precedes → (s t : Lis
 unfolding may_take_all
 front_taken o [] t k h = refl
 front_taken {g} o (a ∷ s) t {rest} k h =
-    both (may_take g a rest) (may_take_all g s (without a rest)) (head_taken o k h) (front_taken o s t (arranged_left k) (acceptable_tail h))
+    and_from (may_take g a rest) (may_take_all g s (without a rest)) (head_taken o k h) (front_taken o s t (arranged_left k) (acceptable_tail h))
 
 -- what follows the front is an arrangement of what is then left
 pub arranged_minus : (s t : List ℕ) {rest : List ℕ} → Arrangement (s ++ t) rest → Arrangement t (minus rest s)
