@@ -19,7 +19,7 @@ use Rattle.paper.specs.Entry.Found.{start, scan, predict, complete}
 use Rattle.paper.specs.Sheet.{Sheet, list_at, word, waiting}
 use Rattle.paper.specs.Price.{rests}
 use Rattle.paper.specs.Building.{insert_all, below, seeds, predicted, completed, consequences, next_list, first_lists, sheet_of, IsClosed}
-use Rattle.paper.proofs.Lists.{mem_keep, keep_mem, map_mem, mem_flat_map, flat_map_mem, mem_below, below_mem}
+use Rattle.paper.proofs.Lists.{mem_keep, keep_mem, mem_flat_map, flat_map_mem, mem_below, below_mem}
 use Rattle.paper.proofs.Closure.{Climbs, climbs_ascending, Every, insert_all_climbs, every_insert_all, insert_all_has, close_keeps, close_climbs, close_every, close_closed}
 use Rattle.paper.proofs.Universe.{found_possible, possible_same, universe, universe_size, universe_has}
 
@@ -46,7 +46,7 @@ module _ (g : Grammar) where
 
   predicted_mem : {x : Entry} (j : ℕ) (e : Entry) → Memᴰ x (predicted g j e) → (h : ℕ) × (h < rule_count g) × (may_take g (left g h) e.rest ≡ true) × (x ≡ fresh g h j)
   unfolding predicted
-  predicted_mem j e m = grind (arith, map_mem, keep_mem, below_mem)
+  predicted_mem j e m = grind (arith, Memᴰ.of_map, keep_mem, below_mem)
 
   mem_waiting : {e : Entry} (a : ℕ) (list : List Entry) → Memᴰ e list → may_take g a e.rest ≡ true → Memᴰ (taking a e) (map (taking a) (waiting g a list))
   unfolding waiting
@@ -54,7 +54,7 @@ module _ (g : Grammar) where
 
   waiting_mem : {x : Entry} (a : ℕ) (list : List Entry) → Memᴰ x (map (taking a) (waiting g a list)) → (e : Entry) × Memᴰ e list × (may_take g a e.rest ≡ true) × (x ≡ taking a e)
   unfolding waiting
-  waiting_mem a list m = grind (arith, map_mem, keep_mem)
+  waiting_mem a list m = grind (arith, Memᴰ.of_map, keep_mem)
 
   mem_completed : {e : Entry} (lists : Sheet) (f : Entry) → finished f ≡ true → Memᴰ e (list_at lists f.origin) → may_take g (left g f.rule) e.rest ≡ true
       → Memᴰ (taking (left g f.rule) e) (completed g lists f)
@@ -95,9 +95,9 @@ module _ (g : Grammar) where
     seeds_found : (sheet : Sheet) (m : ℕ) → m ≤ length row → Sound sheet → Every (Found g row m) (seeds g row sheet m)
     unfolding seeds
     seeds_found sheet zero l sound x n =
-        let r = map_mem (λ h. fresh g h 0) (keep (λ h. eqb (left g h) g.start) (below (rule_count g))) n in
+        let r = Memᴰ.of_map (λ h. fresh g h 0) (keep (λ h. eqb (left g h) g.start) (below (rule_count g))) n in
         let k = keep_mem (λ h. eqb (left g h) g.start) (below (rule_count g)) r.1 in
-        rw r.2 (start r.0 (below_mem (rule_count g) k.0) (eqb-true (left g r.0) g.start k.1))
+        rw (← r.2) (start r.0 (below_mem (rule_count g) k.0) (eqb-true (left g r.0) g.start k.1))
     seeds_found sheet (suc j) l sound x n =
         let r = waiting_mem (get_or row j 0) (list_at sheet j) n in
         rw r.3 (scan (sound j r.0 r.1) l r.2)

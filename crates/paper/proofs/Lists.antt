@@ -41,14 +41,6 @@ module _ {A : Type 0} (p : A → Bool) where
       go false e n ih = (Memᴰ.tail (ih n).0, (ih n).1)
 
 module _ {A B : Type 0} where
-  pub map_mem : (f : A → B) {y : B} (s : List A) → Memᴰ y (map f s) → (x : A) × Memᴰ x s × (y ≡ f x)
-  map_mem f [] m = absurd (Memᴰ.not-nil m)
-  map_mem f {y} (a ∷ s) m = go (Memᴰ.cases_cons m) (λ n. map_mem f s n)
-    where
-      go : (y ≡ f a) ⊎ Memᴰ y (map f s) → (Memᴰ y (map f s) → (x : A) × Memᴰ x s × (y ≡ f x)) → (x : A) × Memᴰ x (a ∷ s) × (y ≡ f x)
-      go (inl q) ih = (a, Memᴰ.head refl, q)
-      go (inr n) ih = let r = ih n in (r.0, Memᴰ.tail r.1, r.2)
-
   pub mem_flat_map : (f : A → List B) {x : A} {y : B} (s : List A) → Memᴰ x s → Memᴰ y (f x) → Memᴰ y (flat_map f s)
   unfolding flat_map
   mem_flat_map f [] m n = absurd (Memᴰ.not-nil m)
@@ -160,4 +152,4 @@ module _ {A : Type 0} where
 
 pub distinct_map : {A B : Type 0} (f : A → B) → ((x y : A) → f x ≡ f y → x ≡ y) → (s : List A) → Distinct s → Distinct (map f s)
 distinct_map f inj [] d = tt
-distinct_map f inj (x ∷ s) d = grind (arith, map_mem, distinct_map f inj s d.1)
+distinct_map f inj (x ∷ s) d = grind (arith, Memᴰ.of_map, distinct_map f inj s d.1)

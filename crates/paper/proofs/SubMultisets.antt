@@ -13,7 +13,7 @@ use lib.ListN.{length, get_or}
 use borrow.Author.Tests.{eqb-false, eq-eqb}
 use Rattle.paper.specs.Multiset.{bit, count, Arrangement, has, without, minus, keep, sub_multisets}
 use Rattle.paper.proofs.Multiset.{count_self, count_other, count_has, count_without, arranged_cons, arranged_uncons, arranged_sym, arranged_trans, arranged_without}
-use Rattle.paper.proofs.Lists.{mem_keep, keep_mem, map_mem, place_mem, Distinct, distinct_append, distinct_places, distinct_keep, distinct_map}
+use Rattle.paper.proofs.Lists.{mem_keep, keep_mem, place_mem, Distinct, distinct_append, distinct_places, distinct_keep, distinct_map}
 
 -- r is listed as a sub-multiset of s
 abbrev pub Listed : List ℕ → List ℕ → Type 0
@@ -39,7 +39,7 @@ pub record Present (a : ℕ) (s : List ℕ) (r : List ℕ) : Type 0 where
   pub r_is : r ≡ a ∷ q
 
 present_mem : {r : List ℕ} (a : ℕ) (s : List ℕ) → Memᴰ r (map (a ∷◌) (full a s)) → Present a s r
-present_mem a s m = grind (arith, map_mem, keep_mem)
+present_mem a s m = grind (arith, Memᴰ.of_map, keep_mem)
 
 -- how r is listed: its first member is missing, or it is there with every later one equal to it
 pub listed_cases : {r : List ℕ} (a : ℕ) (s : List ℕ) → Listed r (a ∷ s) → Listed r s ⊎ Present a s r
