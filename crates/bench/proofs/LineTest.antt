@@ -8,6 +8,7 @@ use native.Mathlib.Omega.{arith}
 use lib.Dec.{eqb, leb, ltb}
 use lib.ListN.{length, get_or}
 use borrow.Author.Tests.{eqb-true, ltb-true, leb-true}
+use Rattle.std.proofs.lemmas.List.{nil_from_length}
 use Rattle.paper.specs.Multiset.{Arrangement, minus}
 use Rattle.paper.specs.Grammar.{Grammar, rule_count, members}
 use Rattle.paper.specs.Derivation.{Acceptable}
@@ -66,11 +67,6 @@ module _ (g : Grammar) (row ns : List ℕ) (k : ℕ) where
       let more = (and-eq-true_iff (eqb (line_from ns earlier) i) (joined row ns k slots (line_to ns earlier) j)).0 both.1 in
       part earlier (ltb-true earlier k both.0) (eqb-true (line_from ns earlier) i more.0) refl refl (joins_right slots (line_to ns earlier) j more.1)
 
--- a list of length 0 is empty
-no_length : (s : List ℕ) → eqb (length s) 0 ≡ true → s ≡ []
-no_length [] h = refl
-no_length (a ∷ s) h = grind arith
-
 -- symbols that may be taken in turn from the members, and leave none, are an acceptable arrangement of them
 unfoldable pub arranges : Grammar → List ℕ → List ℕ → Bool
 arranges g symbols rest = may_take_all g symbols rest && eqb (length (minus rest symbols)) 0
@@ -79,7 +75,7 @@ arranges_right : (g : Grammar) (s rest : List ℕ) → arranges g s rest ≡ tru
 unfolding arranges
 arranges_right g s rest h =
     let both = (and-eq-true_iff (may_take_all g s rest) (eqb (length (minus rest s)) 0)).0 h in
-    let k : Arrangement [] (minus rest s) = rw (no_length (minus rest s) both.1) (arranged_refl []) in
+    let k : Arrangement [] (minus rest s) = rw (nil_from_length (minus rest s) (eqb-true (length (minus rest s)) 0 both.1)) (arranged_refl []) in
     (rw (append-nil s) at (all_taken_arranged g s rest both.0 k), rw (append-nil s) at (all_taken_acceptable g s rest both.0 k (acceptable_nil g)))
 
 -- slot x of line k is past its parts only if it is 0

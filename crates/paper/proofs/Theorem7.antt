@@ -7,6 +7,7 @@ use Prim.Native.Nat.{ℕ, suc, ◌≤◌, ◌<◌}
 use native.Mathlib.Omega.{arith}
 use lib.ListN.{length, get_or}
 use borrow.Author.Tests.{eqb-true}
+use Rattle.std.proofs.lemmas.List.{nil_from_length}
 use Rattle.paper.specs.Multiset.{Arrangement, without, minus}
 use Rattle.paper.specs.Grammar.{Grammar, rule_count, left, members, StrictPartialOrder}
 use Rattle.paper.specs.Derivation.{Acceptable}
@@ -34,11 +35,7 @@ pub record StandsByTrees (g : Grammar) (row : List ℕ) (j : ℕ) (e : Entry) : 
 
 pub finished_rest : (e : Entry) → finished e ≡ true → e.rest ≡ []
 unfolding finished
-finished_rest e h = empty e.rest (eqb-true (length e.rest) 0 h)
-  where
-    empty : (s : List ℕ) → length s ≡ 0 → s ≡ []
-    empty [] z = refl
-    empty (a ∷ s) z = absurd (omega arith)
+finished_rest e h = nil_from_length e.rest (eqb-true (length e.rest) 0 h)
 
 pub rest_finished : (e : Entry) → e.rest ≡ [] → finished e ≡ true
 unfolding finished

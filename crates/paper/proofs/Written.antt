@@ -6,6 +6,7 @@ use Prim.Native.Nat.{ℕ, zero, suc, ◌+◌, ◌*◌, ◌≤◌, ◌<◌}
 use native.Mathlib.Omega.{arith}
 use lib.ListN.{length, take, drop, take-append-drop, length-drop, drop_of_length-le}
 use lib.Seq.{drop-cons, drop-drop, take_all}
+use Rattle.std.proofs.lemmas.List.{nil_from_length}
 use Rattle.paper.specs.Image.{byte, kind, offset, extent, body, record_size, record_of, rule_of, rules_of, pairs_of, image_symbols, image_terminals, image_pairs, image_fault, grammar_of}
 use Rattle.paper.specs.Records.{record_at}
 use Rattle.paper.specs.Written.{AreBytes, entry_bytes, symbols_body, rule_bytes, rules_bytes, rules_body, order_body, contents_bytes, image_bytes, written}
@@ -27,10 +28,6 @@ bytes_from_lem (suc n) i s l = grind (arith, drop-cons, bytes_from_lem n (suc i)
 symbols_written : (s : List ℕ) → length s ≡ 3 → s ≡ symbols_body (byte s 0) (byte s 1) (byte s 2)
 symbols_written s e = bytes_from_lem 3 0 s (omega arith) ∙ rw (drop_of_length-le s {i = 3} (omega arith))
 
-nil_of_length : (r : List ℕ) → length r ≡ 0 → [] ≡ r
-nil_of_length [] e = refl
-nil_of_length (a ∷ r) e = absurd (omega arith)
-
 record_written : (terminals symbols more : ℕ) (last r : List ℕ) → RightRecords terminals symbols (suc more) last r
     → (rest : List ℕ) → rest ≡ drop (record_size r) r → rule_bytes (rule_of r) ++ rest ≡ r
 unfolding record_at
@@ -38,7 +35,7 @@ record_written terminals symbols more last r run rest e = grind (arith, record_r
 
 records_written : (terminals symbols more : ℕ) (last r : List ℕ) → RightRecords terminals symbols more last r → rules_bytes (rules_of more r) ≡ r
 unfolding rules_bytes rules_of record_at
-records_written terminals symbols zero last r run = nil_of_length r run.filled
+records_written terminals symbols zero last r run = sym (nil_from_length r run.filled)
 records_written terminals symbols (suc more) last r run =
     record_written terminals symbols more last r run (rules_bytes (rules_of more (drop (record_size r) r)))
     (records_written terminals symbols more (record_of r) (drop (record_size r) r) (records_tail terminals symbols more last r run))

@@ -14,6 +14,7 @@ use lib.Pow.{pow_pos}
 use lib.Bits.{bit_and}
 use lib.Count.{ones}
 use borrow.Author.Tests.{eq-eqb, ne_eqb}
+use Rattle.std.proofs.lemmas.List.{nil_from_length}
 use Rattle.paper.specs.Bits.{bit_at}
 use Rattle.paper.specs.Multiset.{bit, count, Arrangement, has, without, minus}
 use Rattle.paper.specs.Grammar.{Grammar, IsGrammar, rule_count, members}
@@ -198,11 +199,7 @@ rest_length {s} {m} p = sym (ones_mask s (proper_listed p)) ∙ ap ones (mask_re
 
 -- nothing is left exactly if the byte is 0
 pub rest_nil : {s : List ℕ} {m : ℕ} → Proper s m → (m ≡ 0) ↔ (rest_of s m ≡ [])
-rest_nil {s} {m} p = (λ e. empty (rest_of s m) (rest_length p ∙ (zero_ones m).1 e), λ e. (zero_ones m).0 (sym (rest_length p) ∙ ap length e))
-  where
-    empty : (r : List ℕ) → length r ≡ 0 → r ≡ []
-    empty [] e = refl
-    empty (a ∷ r) e = absurd (omega arith)
+rest_nil {s} {m} p = (λ e. nil_from_length (rest_of s m) (rest_length p ∙ (zero_ones m).1 e), λ e. (zero_ones m).0 (sym (rest_length p) ∙ ap length e))
 
 -- ## The byte of a fresh entry
 
