@@ -133,10 +133,10 @@ clear_lt k x e = omega (arith, bit_power_le k x e, pow_pos k)
 -- ## The bits that two numbers share, and those that either has
 
 pub bit_and_lem : (k x y : ℕ) → bit_at k (bit_and x y) ≡ min (bit_at k x) (bit_at k y)
-bit_and_lem k x y = rw (bit_at_lem k (bit_and x y), bit_at_lem k x, bit_at_lem k y) (bit_at_and x y k)
+bit_and_lem k x y = grind (arith, bit_at_lem, bit_at_and)
 
 pub bit_or_lem : (k x y : ℕ) → bit_at k (bit_or x y) ≡ max (bit_at k x) (bit_at k y)
-bit_or_lem k x y = rw (bit_at_lem k (bit_or x y), bit_at_lem k x, bit_at_lem k y) (bit_at_or x y k)
+bit_or_lem k x y = grind (arith, bit_at_lem, bit_at_or)
 
 -- bit k is in both exactly if it is in the numbers' `and`
 pub and_set : (k x y : ℕ) → (bit_at k (bit_and x y) ≡ 1) ↔ ((bit_at k x ≡ 1) × (bit_at k y ≡ 1))
@@ -152,11 +152,6 @@ and_none x y =
     go k f (inr e) = absurd (f k ((and_set k x y).0 e).0 ((and_set k x y).0 e).1)
 
 -- ## The lowest bit
-
-pub trailing_lt : (n x : ℕ) → x ≢ 0 → x < 2 ^ n → count_trailing_zeros n x < n
-unfolding count_trailing_zeros
-trailing_lt zero x ne h = absurd (omega arith)
-trailing_lt (suc n) x ne h = grind (arith, trailing_lt n (x / 2))
 
 pub trailing_set : (n x : ℕ) → x ≢ 0 → x < 2 ^ n → bit_at (count_trailing_zeros n x) x ≡ 1
 unfolding count_trailing_zeros bit_at
@@ -175,9 +170,6 @@ trailing_clear (suc n) k x l = go (x % 2) k refl l (λ j. trailing_clear n j (x 
     go (suc b) k e l ih = absurd (omega arith)
 
 -- ## The highest bit
-
-pub leading_lt : (n x : ℕ) → x ≢ 0 → x < 2 ^ n → count_leading_zeros n x < n
-leading_lt n x ne h = let t = leading_top n x (omega arith) h in omega (arith, t.1)
 
 pub leading_set : (n x : ℕ) → x ≢ 0 → x < 2 ^ n → bit_at (n - 1 - count_leading_zeros n x) x ≡ 1
 leading_set n x ne h =
