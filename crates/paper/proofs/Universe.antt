@@ -75,14 +75,7 @@ length_with_origins h listed (suc i) =
 length_with_rules : (h n : ℕ) (rules : List Rule) → length (with_rules h n rules) ≡ sum (λ r. length (sub_multisets r.members)) rules * n
 unfolding with_rules sum
 length_with_rules h n [] = omega (arith, zero-mul n)
-length_with_rules h n (r ∷ rules) =
-    omega (
-      arith,
-      length-append (with_origins h (sub_multisets r.members) n) (with_rules (suc h) n rules),
-      length_with_origins h (sub_multisets r.members) n,
-      length_with_rules (suc h) n rules,
-      add-mul (length (sub_multisets r.members)) (sum (λ q. length (sub_multisets q.members)) rules) n,
-    )
+length_with_rules h n (r ∷ rules) = search (rules, length-append, length_with_origins, add-mul, length_with_rules (suc h) n rules)
 
 -- there are D(j + 1) of them
 pub universe_size : (g : Grammar) (j : ℕ) → length (universe g j) ≡ rests g * suc j
