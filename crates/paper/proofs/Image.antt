@@ -115,7 +115,7 @@ module _ (s r p : List ℕ) (symbols : RightSymbols s) (rules : RightRules (byte
 
   rule_is : (h : ℕ) → h < rule_count (parts_grammar s r p) → rule_at (parts_grammar s r p) h ≡ rule_of (record_at h (drop 1 r))
   unfolding parts_grammar
-  rule_is h l = rules_at (byte r 0) h (drop 1 r) (record { left = 0; members = [] }) (below_count h l)
+  rule_is h l = search (rules, rules_at, below_count)
 
   rule_right : (h : ℕ) → h < rule_count (parts_grammar s r p) → RightRule (byte s 0) (byte s 0 + byte s 1) (rule_at (parts_grammar s r p) h)
   rule_right h l = subst⁻¹ (RightRule (byte s 0) (byte s 0 + byte s 1)) (rule_is h l) (record_is rules.records h (below_count h l)).rule
@@ -157,7 +157,7 @@ image_grammar b h =
 -- there are as many rules as the first byte of the rules body says
 pub image_count : (b : List ℕ) → rule_count (grammar_of b) ≡ byte (body b 1) 0
 unfolding grammar_of
-image_count b = rules_count (byte (body b 1) 0) (drop 1 (body b 1))
+image_count b = simp rules_count
 
 -- rule h is the one that record h of the rules body means
 pub image_rule : (b : List ℕ) (h : ℕ) → h < byte (body b 1) 0 → rule_at (grammar_of b) h ≡ rule_of (record_at h (drop 1 (body b 1)))
