@@ -5,10 +5,10 @@ use mathlib.Core.Bool.{Bool, true, false, not, ◌&&◌, ◌||◌, and-eq-true_i
 use mathlib.Core.List.{List, [], ◌∷◌, append-nil}
 use Prim.Native.Nat.{ℕ, zero, suc, ◌-◌, ◌%◌, ◌≤◌, ◌<◌}
 use native.Mathlib.Omega.{arith}
-use native.Mathlib.Decide.{ℕ_discrete}
 use lib.Dec.{eqb, leb, ltb}
 use lib.ListN.{length, get_or}
-use borrow.Author.Tests.{eqb-true, eq-eqb, ltb-true, leb-true, le-ltb}
+use borrow.Author.Tests.{eqb-true, ltb-true, leb-true}
+use Rattle.std.proofs.lemmas.List.{nil_from_length}
 use Rattle.paper.specs.Multiset.{Arrangement, minus}
 use Rattle.paper.specs.Grammar.{Grammar, rule_count, members}
 use Rattle.paper.specs.Derivation.{Acceptable}
@@ -26,12 +26,8 @@ every_below (suc n) p = p n && every_below n p
 
 every_below_lem : (n : ℕ) (p : ℕ → Bool) → every_below n p ≡ true → (k : ℕ) → k < n → p k ≡ true
 unfolding every_below
-every_below_lem zero p h k l = absurd (let z : ⊥ = omega arith in z)
-every_below_lem (suc n) p h k l = go (ℕ_discrete k n) ((and-eq-true_iff (p n) (every_below n p)).0 h) (every_below_lem n p)
-  where
-    go : Dec (k ≡ n) → (p n ≡ true) × (every_below n p ≡ true) → (every_below n p ≡ true → (x : ℕ) → x < n → p x ≡ true) → p k ≡ true
-    go (yes e) h below = rw e h.0
-    go (no ne) h below = below h.1 k (omega arith)
+every_below_lem zero p h k l = absurd (omega arith)
+every_below_lem (suc n) p h k l = grind (arith, every_below_lem n p)
 
 unfoldable pub some_below : ℕ → (ℕ → Bool) → Bool
 some_below zero p = false
@@ -40,11 +36,7 @@ some_below (suc n) p = p n || some_below n p
 some_below_lem : (n : ℕ) (p : ℕ → Bool) → some_below n p ≡ true → (k : ℕ) × (k < n) × (p k ≡ true)
 unfolding some_below
 some_below_lem zero p h = absurd (false≢true h)
-some_below_lem (suc n) p h = go (p n) refl h (some_below_lem n p)
-  where
-    go : (t : Bool) → p n ≡ t → (t || some_below n p) ≡ true → (some_below n p ≡ true → (k : ℕ) × (k < n) × (p k ≡ true)) → (k : ℕ) × (k < suc n) × (p k ≡ true)
-    go true e h below = (n, omega arith, e)
-    go false e h below = let x = below h in (x.0, (let l : x.0 < n = x.1 in omega arith), x.2)
+some_below_lem (suc n) p h = grind (arith, some_below_lem n p)
 
 -- ---- one line
 
@@ -75,11 +67,6 @@ module _ (g : Grammar) (row ns : List ℕ) (k : ℕ) where
       let more = (and-eq-true_iff (eqb (line_from ns earlier) i) (joined row ns k slots (line_to ns earlier) j)).0 both.1 in
       part earlier (ltb-true earlier k both.0) (eqb-true (line_from ns earlier) i more.0) refl refl (joins_right slots (line_to ns earlier) j more.1)
 
--- a list of length 0 is empty
-no_length : (s : List ℕ) → eqb (length s) 0 ≡ true → s ≡ []
-no_length [] h = refl
-no_length (a ∷ s) h = absurd (let z : suc (length s) ≡ 0 = eqb-true (suc (length s)) 0 h in let k : ⊥ = omega arith in k)
-
 -- symbols that may be taken in turn from the members, and leave none, are an acceptable arrangement of them
 unfoldable pub arranges : Grammar → List ℕ → List ℕ → Bool
 arranges g symbols rest = may_take_all g symbols rest && eqb (length (minus rest symbols)) 0
@@ -88,7 +75,7 @@ arranges_right : (g : Grammar) (s rest : List ℕ) → arranges g s rest ≡ tru
 unfolding arranges
 arranges_right g s rest h =
     let both = (and-eq-true_iff (may_take_all g s rest) (eqb (length (minus rest s)) 0)).0 h in
-    let k : Arrangement [] (minus rest s) = rw (no_length (minus rest s) both.1) (arranged_refl []) in
+    let k : Arrangement [] (minus rest s) = rw (nil_from_length (minus rest s) (eqb-true (length (minus rest s)) 0 both.1)) (arranged_refl []) in
     (rw (append-nil s) at (all_taken_arranged g s rest both.0 k), rw (append-nil s) at (all_taken_acceptable g s rest both.0 k (acceptable_nil g)))
 
 -- slot x of line k is past its parts only if it is 0
@@ -97,7 +84,7 @@ past_right ns k x = ltb x (line_parts ns k) || eqb (line_slot ns k x) 0
 
 past_right_lem : (ns : List ℕ) (k x : ℕ) → past_right ns k x ≡ true → line_parts ns k ≤ x → line_slot ns k x ≡ 0
 unfolding past_right
-past_right_lem ns k x h l = eqb-true (line_slot ns k x) 0 (rw (le-ltb x (line_parts ns k) l) at h)
+past_right_lem ns k x h l = grind arith
 
 -- lines i and k share left symbol and span
 unfoldable pub shared : Grammar → List ℕ → ℕ → ℕ → Bool
@@ -105,9 +92,7 @@ shared g ns i k = eqb (line_symbol g ns i) (line_symbol g ns k) && (eqb (line_fr
 
 not_shared : (g : Grammar) (ns : List ℕ) (i k : ℕ) → not (shared g ns i k) ≡ true → line_symbol g ns i ≡ line_symbol g ns k → line_from ns i ≡ line_from ns k → line_to ns i ≡ line_to ns k → ⊥
 unfolding shared
-not_shared g ns i k h a b c =
-    false≢true
-    (rw (eq-eqb (line_symbol g ns i) (line_symbol g ns k) a, eq-eqb (line_from ns i) (line_from ns k) b, eq-eqb (line_to ns i) (line_to ns k) c) at h)
+not_shared g ns i k h a b c = grind arith
 
 unfoldable pub line_test : Grammar → List ℕ → List ℕ → ℕ → Bool
 line_test g row ns k =
@@ -154,11 +139,7 @@ used_by ns k i = ltb k i && some_below (line_parts ns i) (λ x. eqb (line_slot n
 
 used_right : (ns : List ℕ) (n k : ℕ) → some_below n (used_by ns k) ≡ true → (i : ℕ) × (k < i) × (i < n) × Uses ns i k
 unfolding used_by
-used_right ns n k h =
-    let (i, below, by) = some_below_lem n (used_by ns k) h in
-    let (behind, slots) = (and-eq-true_iff (ltb k i) (some_below (line_parts ns i) (λ x. eqb (line_slot ns i x) (suc k)))).0 by in
-    let (x, is_part, names) = some_below_lem (line_parts ns i) (λ x. eqb (line_slot ns i x) (suc k)) slots in
-    (i, ltb-true k i behind, below, record { slot = x; is_part = is_part; names = eqb-true (line_slot ns i x) (suc k) names })
+used_right ns n k h = grind (arith, some_below_lem)
 
 unfoldable pub whole_test : Grammar → List ℕ → List ℕ → ℕ → Bool
 whole_test g row ns last =

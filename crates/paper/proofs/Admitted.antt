@@ -1,24 +1,24 @@
 -- What is written of a grammar is admitted and means that grammar: the image check admits exactly such images.
 -- Assumes nothing.
-use mathlib.Core.Path.{◌≡◌, refl, sym, ◌∙◌, ap, subst, subst⁻¹}
-use mathlib.Core.Bool.{Bool, true, false, not, ◌&&◌, ◌||◌, and-eq-true_iff, or-true}
+use mathlib.Core.Path.{◌≡◌, refl, sym, ◌∙◌, ap}
+use mathlib.Core.Bool.{true, and-eq-true_iff}
 use mathlib.Core.Logic.{◌↔◌}
 use Rattle.std.specs.Prelude.{None}
 use mathlib.Core.List.{List, [], ◌∷◌, ◌++◌, map}
 use Prim.Native.Nat.{ℕ, suc, ◌+◌, ◌*◌, ◌/◌, ◌%◌, ◌≤◌, ◌<◌}
 use native.Mathlib.Omega.{arith}
-use lib.Dec.{eqb, leb, ltb}
-use lib.ListN.{length, get_or, take, drop, length-append, length-map}
-use lib.Seq.{drop-drop, take-add, take-append_seam, drop-append_seam, take-length}
-use borrow.Author.Tests.{eqb-true, eq-eqb, le-leb, lt-ltb}
+use lib.Dec.{leb, ltb}
+use lib.ListN.{length, get_or, drop, length-append, length-map}
+use lib.Seq.{drop-drop, take-append_seam, drop-append_seam, take-length}
+use borrow.Author.Tests.{le-leb, lt-ltb}
 use Rattle.paper.specs.Multiset.{StrictlyAscending}
 use Rattle.paper.specs.Grammar.{Rule, rule_count, rule_at, StrictPartialOrder, IsGrammar}
 use Rattle.paper.specs.Image.{byte, offset, extent, body, contents_right, symbols_right, all_below, ascends, record_before, record_size, record_of, rule_of, record_right}
 use Rattle.paper.specs.Image.{record_fault, rules_fault, rules_of, Pair, pairs_of, pair_fault, paired, chained, closing_fault, image_fault, grammar_of, image_terminals, image_symbols, image_pairs}
 use Rattle.paper.specs.Records.{record_at}
 use Rattle.paper.specs.Written.{AreBytes, rule_bytes, rules_bytes, rules_body, order_body, symbols_body, image_bytes, written, grammar_with, pair_key, RulesAscend, PairsOfSymbols, IsWritten}
-use Rattle.paper.proofs.Records.{spot_on, record_on, RightRule, RightRecords, record_bytes, record_is, record_before_lem, rules_right}
-use Rattle.paper.proofs.Order.{pair_on, closing_on, pairs_right}
+use Rattle.paper.proofs.Records.{record_on, RightRule, RightRecords, record_bytes, record_is, record_before_lem, rules_right}
+use Rattle.paper.proofs.Order.{pair_on, pairs_right}
 use Rattle.paper.proofs.Written.{image_written}
 use Rattle.paper.proofs.Image.{Admitted, admitted, not_refused, symbols_check, RightContents, contents_check, parts_grammar, grammar_of_bodies, image_grammar, image_rule, image_count}
 
@@ -26,23 +26,20 @@ use Rattle.paper.proofs.Image.{Admitted, admitted, not_refused, symbols_check, R
 
 module _ (rule : Rule) (rest : List ℕ) where
   record_front : record_of (rule_bytes rule ++ rest) ≡ rule_bytes rule
-  record_front =
-      take-add 2 (length rule.members) (rule_bytes rule ++ rest)
-      ∙ ap {B = List ℕ} (λ s. rule.left ∷ length rule.members ∷ s) (take-append_seam rule.members rest)
+  record_front = grind (arith, take-append_seam)
 
   record_rest : drop (record_size (rule_bytes rule ++ rest)) (rule_bytes rule ++ rest) ≡ rest
-  record_rest = sym (drop-drop (length rule.members) 2 (rule_bytes rule ++ rest)) ∙ drop-append_seam rule.members rest
+  record_rest = grind (arith, drop-append_seam)
 
   rule_front : rule_of (rule_bytes rule ++ rest) ≡ rule
-  rule_front = λ i. record { left = rule.left; members = take-append_seam rule.members rest i }
+  rule_front = grind (arith, take-append_seam)
 
 -- Reading back what is written.
 
 rules_read : (rules : List Rule) → rules_of (length rules) (rules_bytes rules) ≡ rules
 unfolding rules_of rules_bytes
 rules_read [] = refl
-rules_read (rule ∷ rules) =
-    λ i. rule_front rule (rules_bytes rules) i ∷ (ap {B = List Rule} (rules_of (length rules)) (record_rest rule (rules_bytes rules)) ∙ rules_read rules) i
+rules_read (rule ∷ rules) = grind (arith, rule_front, record_rest, rules_read rules)
 
 pairs_read : (pairs : List Pair) → pairs_of (order_body pairs) ≡ pairs
 unfolding pairs_of order_body
@@ -71,22 +68,10 @@ module _ (f s t : List ℕ) where
   offset_2 = divided (17 + length f + length s)
 
   contents_are : RightContents (image_bytes f s t)
-  contents_are =
-      record {
-        size = omega arith;
-        form = refl;
-        bodies = refl;
-        kind_0 = refl;
-        kind_1 = refl;
-        kind_2 = refl;
-        offset_0 = refl;
-        offset_1 = omega arith;
-        offset_2 = omega arith;
-        ends = omega (arith, length-append f (s ++ t), length-append s t);
-      }
+  contents_are = grind (arith, length-append)
 
   body_0 : body (image_bytes f s t) 0 ≡ f
-  body_0 = ap {B = List ℕ} (λ x. take x (f ++ (s ++ t))) extent_0 ∙ take-append_seam f (s ++ t)
+  body_0 = grind (arith, extent_0, take-append_seam)
 
   behind_first : drop (17 + length f) (image_bytes f s t) ≡ s ++ t
   behind_first = sym (drop-drop (length f) 17 (image_bytes f s t)) ∙ drop-append_seam f (s ++ t)
@@ -96,10 +81,10 @@ module _ (f s t : List ℕ) where
       sym (drop-drop (length s) (17 + length f) (image_bytes f s t)) ∙ (ap {B = List ℕ} (drop (length s)) behind_first ∙ drop-append_seam s t)
 
   body_1 : body (image_bytes f s t) 1 ≡ s
-  body_1 = (λ i. take (extent_1 i) (drop (offset_1 i) (image_bytes f s t))) ∙ (ap {B = List ℕ} (take (length s)) behind_first ∙ take-append_seam s t)
+  body_1 = grind (arith, extent_1, behind_first, take-append_seam)
 
   body_2 : body (image_bytes f s t) 2 ≡ t
-  body_2 = (λ i. take (extent_2 i) (drop (offset_2 i) (image_bytes f s t))) ∙ (ap {B = List ℕ} (take (length t)) behind_second ∙ take-length t)
+  body_2 = grind (arith, extent_2, behind_second, take-length)
 
 -- What is written means its parts.
 pub written_means : (terminals nonterminals start : ℕ) (rules : List Rule) (pairs : List Pair)
@@ -131,38 +116,11 @@ below_check limit (a ∷ s) below =
 
 record_check : (terminals symbols : ℕ) (rule : Rule) (rest : List ℕ) → RightRule terminals symbols rule → record_right terminals symbols (rule_bytes rule ++ rest) ≡ true
 unfolding record_right
-record_check terminals symbols rule rest right =
-    let m = length rule.members in
-    let r = rule_bytes rule ++ rest in
-    simp and-eq-true_iff (
-      le-leb 2 (length r) (omega arith),
-      (
-        le-leb terminals rule.left right.left_above,
-        (
-          lt-ltb rule.left symbols right.left_below,
-          (
-            le-leb m 8 right.few,
-            (
-              le-leb (2 + m) (length r) (omega (arith, length-append rule.members rest)),
-              (
-                subst⁻¹ (λ (x : List ℕ). ascends 0 x ≡ true) (take-append_seam rule.members rest) (ascends_check 0 rule.members (λ k l. omega arith) right.ascend.ascend),
-                (
-                  subst⁻¹ (λ (x : List ℕ). all_below symbols x ≡ true) (take-append_seam rule.members rest) (below_check symbols rule.members right.below),
-                  refl,
-                ),
-              ),
-            ),
-          ),
-        ),
-      ),
-    )
+record_check terminals symbols rule rest right = grind (arith, length-append, take-append_seam, ascends_check, below_check)
 
 record_sound : (terminals symbols more k : ℕ) (last : List ℕ) (rule : Rule) (rest : List ℕ) → RightRule terminals symbols rule → record_before last (rule_bytes rule) ≡ true
     → record_fault terminals symbols more (suc k) (rule_bytes rule) rest ≡ None → record_fault terminals symbols (suc more) k last (rule_bytes rule ++ rest) ≡ None
-record_sound terminals symbols more k last rule rest right before ih =
-    record_on terminals symbols more k last (rule_bytes rule ++ rest) (record_check terminals symbols rule rest right)
-    (subst⁻¹ (λ (x : List ℕ). record_before last x ≡ true) (record_front rule rest) before)
-    ∙ ((λ i. record_fault terminals symbols more (suc k) (record_front rule rest i) (record_rest rule rest i)) ∙ ih)
+record_sound terminals symbols more k last rule rest right before ih = grind (arith, record_on, record_check, record_front, record_rest)
 
 -- past the last there is no rule
 abbrev none : Rule
@@ -185,21 +143,18 @@ rules_sound : (terminals symbols : ℕ) (rules : List Rule) → length rules ≤
     → ((h k : ℕ) → h < k → k < length rules → record_before (rule_bytes (get_or rules h none)) (rule_bytes (get_or rules k none)) ≡ true)
     → rules_fault terminals symbols (rules_body rules) ≡ None
 unfolding rules_fault record_before
-rules_sound terminals symbols rules few right up =
-    spot_on (leb 1 (length (rules_body rules)) && leb (length rules) 96) 0 (record_fault terminals symbols (length rules) 0 [] (rules_bytes rules))
-    ((and-eq-true_iff (leb 1 (length (rules_body rules))) (leb (length rules) 96)).1 (le-leb 1 (length (rules_body rules)) (omega arith), le-leb (length rules) 96 few))
-    ∙ records_sound terminals symbols 0 [] rules right (λ l. refl) up
+rules_sound terminals symbols rules few right up = grind (arith, records_sound)
 
 -- The order body is sound.
 
 -- a pair is written where it stands, and stays written where others stand before it
 paired_here : (p : Pair) (pairs : List Pair) → paired (p ∷ pairs) p.earlier p.later ≡ true
 unfolding paired
-paired_here p pairs = rw (eq-eqb p.earlier p.earlier refl, eq-eqb p.later p.later refl)
+paired_here p pairs = grind arith
 
 paired_there : (p : Pair) (pairs : List Pair) (a b : ℕ) → paired pairs a b ≡ true → paired (p ∷ pairs) a b ≡ true
 unfolding paired
-paired_there p pairs a b h = rw h (or-true (eqb p.earlier a && eqb p.later b))
+paired_there p pairs a b h = grind arith
 
 pairs_sound : (symbols k least : ℕ) (pairs : List Pair) → ((a b : ℕ) → paired pairs a b ≡ true → (a < symbols) × (b < symbols))
     → ((i : ℕ) → i < length pairs → least ≤ get_or (map pair_key pairs) i 0)
@@ -219,69 +174,30 @@ module _ (pairs : List Pair) (order : StrictPartialOrder (paired pairs)) where
   chained_on : (a b : ℕ) → paired pairs a b ≡ true → (more : List Pair) → ((c d : ℕ) → paired more c d ≡ true → paired pairs c d ≡ true) → chained pairs a b more ≡ true
   unfolding chained
   chained_on a b w [] among = refl
-  chained_on a b w (q ∷ more) among =
-      (and-eq-true_iff (not (eqb q.earlier b) || paired pairs a q.later) (chained pairs a b more)).1
-      (go (eqb q.earlier b) refl, chained_on a b w more (λ c d h. among c d (paired_there q more c d h)))
-    where
-      go : (t : Bool) → eqb q.earlier b ≡ t → (not (eqb q.earlier b) || paired pairs a q.later) ≡ true
-      go true e =
-          let f = among q.earlier q.later (paired_here q more) in
-          let g = subst (λ (x : ℕ). paired pairs x q.later ≡ true) (eqb-true q.earlier b e) f in
-          rw (e, order.transitive a b q.later w g)
-      go false e = rw e
+  chained_on a b w (q ∷ more) among = grind (arith, paired_here, chained_on a b w more (λ c d h. among c d (paired_there q more c d h)))
 
   apart : (a b : ℕ) → paired pairs a b ≡ true → a ≡ b → ⊥
-  apart a b w e =
-      let f = order.irreflexive b in
-      let g = subst (λ (x : ℕ). paired pairs x b ≡ true) e w in
-      let z : ◌≡◌ {A = ℕ} 0 1 = cc in
-      let l : ⊥ = omega arith in l
+  apart a b w e = grind arith
 
   closing_sound : (k : ℕ) (more : List Pair) → ((c d : ℕ) → paired more c d ≡ true → paired pairs c d ≡ true) → closing_fault pairs k more ≡ None
   unfolding closing_fault
   closing_sound k [] among = refl
-  closing_sound k (p ∷ more) among =
-      let w = among p.earlier p.later (paired_here p more) in
-      closing_on pairs k p more (apart p.earlier p.later w) (chained_on p.earlier p.later w pairs (λ c d h. h))
-      ∙ closing_sound (suc k) more (λ c d h. among c d (paired_there p more c d h))
+  closing_sound k (p ∷ more) among = grind (arith, paired_here, chained_on, closing_sound (suc k) more (λ c d h. among c d (paired_there p more c d h)))
 
 -- The image check admits what is written of a grammar.
 
 bodies_admitted : (b s r p : List ℕ) → contents_right b ≡ true → body b 0 ≡ s → body b 1 ≡ r → body b 2 ≡ p → symbols_right s ≡ true
     → rules_fault (byte s 0) (byte s 0 + byte s 1) r ≡ None → pair_fault (byte s 0 + byte s 1) 0 0 p ≡ None → closing_fault (pairs_of p) 0 (pairs_of p) ≡ None → Admitted b
-bodies_admitted b s r p c e f g x y z w =
-    record {
-      contents = c;
-      symbols = ap symbols_right e ∙ x;
-      rules = (λ i. rules_fault (byte (e i) 0) (byte (e i) 0 + byte (e i) 1) (f i)) ∙ y;
-      pairs = (λ i. pair_fault (byte (e i) 0 + byte (e i) 1) 0 0 (g i)) ∙ z;
-      closed = (λ i. closing_fault (pairs_of (g i)) 0 (pairs_of (g i))) ∙ w;
-    }
+bodies_admitted b s r p c e f g x y z w = grind arith
 
 module _ (terminals nonterminals start : ℕ) (rules : List Rule) (pairs : List Pair) (is : IsGrammar (grammar_with terminals nonterminals start rules pairs))
     (rules_ascend : RulesAscend (grammar_with terminals nonterminals start rules pairs)) (pairs_are : PairsOfSymbols (grammar_with terminals nonterminals start rules pairs))
     (pairs_ascend : StrictlyAscending (map pair_key pairs)) where
   symbols_sound : symbols_right (symbols_body terminals nonterminals start) ≡ true
-  symbols_sound =
-      symbols_check (symbols_body terminals nonterminals start)
-      (record {
-        size = refl;
-        a_terminal = is.a_terminal;
-        a_nonterminal = is.a_nonterminal;
-        few = is.few_symbols;
-        start_above = is.start_is.above;
-        start_below = is.start_is.below;
-      })
+  symbols_sound = grind (arith, symbols_check)
 
   rule_right : (h : ℕ) → h < length rules → RightRule terminals (terminals + nonterminals) (get_or rules h none)
-  rule_right h l =
-      record {
-        left_above = (is.left_is h l).above;
-        left_below = (is.left_is h l).below;
-        few = is.few_members h l;
-        ascend = is.members_ascend h l;
-        below = λ k m. is.members_are h k l m;
-      }
+  rule_right h l = grind arith
 
   pub written_admitted : image_fault (written terminals nonterminals start rules pairs) ≡ None
   unfolding written
@@ -332,9 +248,4 @@ admitted_written b h n =
 
 -- The image check admits exactly what is written of a grammar.
 pub image_iff : (b : List ℕ) → AreBytes b → (image_fault b ≡ None) ↔ IsWritten b
-image_iff b h = (admitted_written b h, back)
-  where
-    back : IsWritten b → image_fault b ≡ None
-    back w =
-        ap image_fault w.bytes_are
-        ∙ written_admitted w.terminals w.nonterminals w.start w.rules w.pairs w.is_grammar w.rules_ascend w.pairs_are w.pairs_ascend
+image_iff b h = grind (arith, admitted_written, written_admitted)

@@ -2,14 +2,14 @@
 -- Assumes nothing.
 use mathlib.Core.Path.{◌≡◌, refl, sym, ◌∙◌, ap}
 use mathlib.Core.Logic.{◌⊎◌, inl, inr, ◌↔◌, ◌≢◌}
-use Prim.Native.Nat.{ℕ, zero, suc, ◌+◌, ◌-◌, ◌*◌, ◌/◌, ◌%◌, ◌^◌, ◌≤◌, ◌<◌, min, max}
+use Prim.Native.Nat.{ℕ, zero, suc, ◌+◌, ◌-◌, ◌/◌, ◌%◌, ◌^◌, ◌≤◌, ◌<◌, min, max}
 use native.Mathlib.Omega.{arith}
 use native.Mathlib.Nat.{pow-suc, div-one}
-use native.Mathlib.Decide.{dec_lt}
 use lib.Arith.{bin_ind}
 use lib.Pow.{pow_pos, shr-shr}
-use lib.Bits.{bit_and, bit_or, and_step, or_step}
+use lib.Bits.{bit_and, bit_or}
 use lib.Count.{ones, count_leading_zeros, count_trailing_zeros, under, ones_step, leading_top}
+use Rattle.std.proofs.lemmas.Nat.Bits.{bit_at-zero, bit_at_and, bit_at_or, bit_at_ones, bit_at_above, same_from_bits, same_from_bits_below}
 use Rattle.paper.specs.Bits.{bit_at}
 
 -- ## One bit
@@ -22,31 +22,17 @@ bit_at_lem (suc k) x =
     bit_at_lem k (x / 2) ∙ ap (λ y. y % 2) (shr-shr x 1 k ∙ ap (λ n. x / 2 ^ n) e)
 
 pub bit_lt : (k x : ℕ) → bit_at k x < 2
-unfolding bit_at
-bit_lt zero x = omega arith
-bit_lt (suc k) x = bit_lt k (x / 2)
+bit_lt k x = omega (arith, bit_at_lem k x)
 
 pub bit_cases : (k x : ℕ) → (bit_at k x ≡ 0) ⊎ (bit_at k x ≡ 1)
-bit_cases k x = go (bit_at k x) (bit_lt k x)
-  where
-    go : (b : ℕ) → b < 2 → (b ≡ 0) ⊎ (b ≡ 1)
-    go zero l = inl refl
-    go (suc b) l = inr (omega arith)
+bit_cases k x = grind (arith, bit_lt)
 
 -- a number below 2 ^ n has no bit from n on
 pub bit_high : (n k x : ℕ) → n ≤ k → x < 2 ^ n → bit_at k x ≡ 0
-unfolding bit_at
-bit_high zero zero x l h = omega arith
-bit_high zero (suc k) x l h = bit_high zero k (x / 2) (omega arith) (omega arith)
-bit_high (suc n) zero x l h = absurd (let z : ⊥ = omega arith in z)
-bit_high (suc n) (suc k) x l h = bit_high n k (x / 2) (omega arith) (omega (arith, pow-suc 2 n))
+bit_high n k x l h = bit_at_lem k x ∙ bit_at_above x n k h l
 
 pub bit_place : (n k x : ℕ) → x < 2 ^ n → bit_at k x ≡ 1 → k < n
-bit_place n k x h e = go (dec_lt k n)
-  where
-    go : Dec (k < n) → k < n
-    go (yes l) = l
-    go (no l) = absurd (let z : ⊥ = omega (arith, bit_high n k x (omega arith) h) in z)
+bit_place n k x h e = grind (arith, bit_high)
 
 -- a number with bit k set is at least 2 ^ k
 pub bit_power_le : (k x : ℕ) → bit_at k x ≡ 1 → 2 ^ k ≤ x
@@ -64,13 +50,10 @@ bit_top (suc j) x l h = bit_top j (x / 2) (omega (arith, pow-suc 2 j)) (omega (a
 
 -- a number with no bit set is 0
 pub bits_none : (x : ℕ) → ((k : ℕ) → bit_at k x ≡ 0) → x ≡ 0
-unfolding bit_at
-bits_none = bin_ind (λ x. ((k : ℕ) → bit_at k x ≡ 0) → x ≡ 0) (λ f. refl) (λ x ih f. omega (arith, ih (λ k. f (suc k)), f 0))
+bits_none x f = same_from_bits x 0 (λ k. sym (bit_at_lem k x) ∙ (f k ∙ sym (bit_at-zero k)))
 
 pub bit_zero : (k : ℕ) → bit_at k 0 ≡ 0
-unfolding bit_at
-bit_zero zero = refl
-bit_zero (suc k) = bit_zero k
+bit_zero k = bit_at_lem k 0 ∙ bit_at-zero k
 
 -- x is 0 exactly if no bit is set
 pub zero_bits : (x : ℕ) → (x ≡ 0) ↔ ((k : ℕ) → bit_at k x ≡ 0)
@@ -78,18 +61,11 @@ zero_bits x = (λ e k. ap (bit_at k) e ∙ bit_zero k, bits_none x)
 
 -- numbers below 2 ^ n with equal bits below n are equal
 pub bits_same : (n x y : ℕ) → x < 2 ^ n → y < 2 ^ n → ((k : ℕ) → k < n → bit_at k x ≡ bit_at k y) → x ≡ y
-unfolding bit_at
-bits_same zero x y h l f = omega arith
-bits_same (suc n) x y h l f =
-    let e : x / 2 ≡ y / 2 = bits_same n (x / 2) (y / 2) (omega (arith, pow-suc 2 n)) (omega (arith, pow-suc 2 n)) (λ k i. f (suc k) (omega arith)) in
-    omega (arith, f 0 (omega arith))
+bits_same n x y h l f = same_from_bits_below n x y h l (λ k i. sym (bit_at_lem k x) ∙ (f k i ∙ bit_at_lem k y))
 
 -- every bit below n of 2 ^ n - 1 is set
 pub bit_ones : (n k : ℕ) → k < n → bit_at k (2 ^ n - 1) ≡ 1
-unfolding bit_at
-bit_ones zero k l = absurd (let z : ⊥ = omega arith in z)
-bit_ones (suc n) zero l = omega (arith, pow-suc 2 n, pow_pos n)
-bit_ones (suc n) (suc k) l = let e : (2 ^ suc n - 1) / 2 ≡ 2 ^ n - 1 = omega (arith, pow-suc 2 n, pow_pos n) in ap (bit_at k) e ∙ bit_ones n k (omega arith)
+bit_ones n k l = bit_at_lem k (2 ^ n - 1) ∙ bit_at_ones n k l
 
 -- any other number below 2 ^ n has a clear bit there
 pub clear_exists : (n x : ℕ) → x < 2 ^ n → x ≢ 2 ^ n - 1 → (k : ℕ) × (k < n) × (bit_at k x ≡ 0)
@@ -117,14 +93,14 @@ set_here (suc k) x e = ap (bit_at k) (add_half k x) ∙ set_here k (x / 2) e
 pub set_other : (k j x : ℕ) → bit_at k x ≡ 0 → j ≢ k → bit_at j (x + 2 ^ k) ≡ bit_at j x
 unfolding bit_at
 set_other zero zero x e ne = absurd (ne refl)
-set_other zero (suc j) x e ne = let f : (x + 1) / 2 ≡ x / 2 = omega arith in ap (bit_at j) f
+set_other zero (suc j) x e ne = grind arith
 set_other (suc k) zero x e ne = omega (arith, pow-suc 2 k)
 set_other (suc k) (suc j) x e ne = ap (bit_at j) (add_half k x) ∙ set_other k j (x / 2) e (λ f. ne (ap suc f))
 
 -- it stays below 2 ^ n
 pub set_lt : (n k x : ℕ) → k < n → x < 2 ^ n → bit_at k x ≡ 0 → x + 2 ^ k < 2 ^ n
 unfolding bit_at
-set_lt zero k x l h e = absurd (let z : ⊥ = omega arith in z)
+set_lt zero k x l h e = absurd (omega arith)
 set_lt (suc n) zero x l h e = omega (arith, pow-suc 2 n)
 set_lt (suc n) (suc k) x l h e =
     omega (arith, pow-suc 2 n, pow-suc 2 k, set_lt n k (x / 2) (omega arith) (omega (arith, pow-suc 2 n)) e)
@@ -156,26 +132,15 @@ clear_lt k x e = omega (arith, bit_power_le k x e, pow_pos k)
 
 -- ## The bits that two numbers share, and those that either has
 
-and_half : (x y c : ℕ) → bit_and x y ≡ c * 2 + min (x % 2) (y % 2) → bit_and x y / 2 ≡ c
-and_half x y c e = omega arith
-
 pub bit_and_lem : (k x y : ℕ) → bit_at k (bit_and x y) ≡ min (bit_at k x) (bit_at k y)
-unfolding bit_at
-bit_and_lem zero x y = let e = and_step x y in omega arith
-bit_and_lem (suc k) x y = ap (bit_at k) (and_half x y (bit_and (x / 2) (y / 2)) (and_step x y)) ∙ bit_and_lem k (x / 2) (y / 2)
-
-or_half : (x y c : ℕ) → bit_or x y ≡ c * 2 + max (x % 2) (y % 2) → bit_or x y / 2 ≡ c
-or_half x y c e = omega arith
+bit_and_lem k x y = grind (arith, bit_at_lem, bit_at_and)
 
 pub bit_or_lem : (k x y : ℕ) → bit_at k (bit_or x y) ≡ max (bit_at k x) (bit_at k y)
-unfolding bit_at
-bit_or_lem zero x y = let e = or_step x y in omega arith
-bit_or_lem (suc k) x y = ap (bit_at k) (or_half x y (bit_or (x / 2) (y / 2)) (or_step x y)) ∙ bit_or_lem k (x / 2) (y / 2)
+bit_or_lem k x y = grind (arith, bit_at_lem, bit_at_or)
 
 -- bit k is in both exactly if it is in the numbers' `and`
 pub and_set : (k x y : ℕ) → (bit_at k (bit_and x y) ≡ 1) ↔ ((bit_at k x ≡ 1) × (bit_at k y ≡ 1))
-and_set k x y =
-    (λ e. let f = bit_and_lem k x y in (omega (arith, bit_lt k x, bit_lt k y), omega (arith, bit_lt k x, bit_lt k y)), λ (e, h). omega (arith, bit_and_lem k x y))
+and_set k x y = grind (arith, bit_and_lem, bit_lt)
 
 -- no bit is in both exactly if the numbers' `and` is 0
 pub and_none : (x y : ℕ) → (bit_and x y ≡ 0) ↔ ((k : ℕ) → bit_at k x ≡ 1 → bit_at k y ≡ 1 → ⊥)
@@ -188,39 +153,23 @@ and_none x y =
 
 -- ## The lowest bit
 
-pub trailing_lt : (n x : ℕ) → x ≢ 0 → x < 2 ^ n → count_trailing_zeros n x < n
-unfolding count_trailing_zeros
-trailing_lt zero x ne h = absurd (let z : ⊥ = omega arith in z)
-trailing_lt (suc n) x ne h = go (x % 2) refl (trailing_lt n (x / 2))
-  where
-    go : (b : ℕ) → x % 2 ≡ b → (x / 2 ≢ 0 → x / 2 < 2 ^ n → count_trailing_zeros n (x / 2) < n) → under b (count_trailing_zeros n (x / 2)) < suc n
-    go zero e ih = omega (arith, ih (omega arith) (omega (arith, pow-suc 2 n)))
-    go (suc b) e ih = omega arith
-
 pub trailing_set : (n x : ℕ) → x ≢ 0 → x < 2 ^ n → bit_at (count_trailing_zeros n x) x ≡ 1
 unfolding count_trailing_zeros bit_at
-trailing_set zero x ne h = absurd (let z : ⊥ = omega arith in z)
-trailing_set (suc n) x ne h = go (x % 2) refl (trailing_set n (x / 2))
-  where
-    go : (b : ℕ) → x % 2 ≡ b → (x / 2 ≢ 0 → x / 2 < 2 ^ n → bit_at (count_trailing_zeros n (x / 2)) (x / 2) ≡ 1) → bit_at (under b (count_trailing_zeros n (x / 2))) x ≡ 1
-    go zero e ih = ih (omega arith) (omega (arith, pow-suc 2 n))
-    go (suc b) e ih = omega arith
+trailing_set zero x ne h = absurd (omega arith)
+trailing_set (suc n) x ne h = grind (arith, trailing_set n (x / 2))
 
 -- the bits below it are clear
 pub trailing_clear : (n k x : ℕ) → k < count_trailing_zeros n x → bit_at k x ≡ 0
 unfolding count_trailing_zeros bit_at
-trailing_clear zero k x l = absurd (let z : ⊥ = omega arith in z)
+trailing_clear zero k x l = absurd (omega arith)
 trailing_clear (suc n) k x l = go (x % 2) k refl l (λ j. trailing_clear n j (x / 2))
   where
     go : (b k : ℕ) → x % 2 ≡ b → k < under b (count_trailing_zeros n (x / 2)) → ((j : ℕ) → j < count_trailing_zeros n (x / 2) → bit_at j (x / 2) ≡ 0) → bit_at k x ≡ 0
     go zero zero e l ih = e
     go zero (suc k) e l ih = ih k (omega arith)
-    go (suc b) k e l ih = absurd (let z : ⊥ = omega arith in z)
+    go (suc b) k e l ih = absurd (omega arith)
 
 -- ## The highest bit
-
-pub leading_lt : (n x : ℕ) → x ≢ 0 → x < 2 ^ n → count_leading_zeros n x < n
-leading_lt n x ne h = let t = leading_top n x (omega arith) h in omega (arith, t.1)
 
 pub leading_set : (n x : ℕ) → x ≢ 0 → x < 2 ^ n → bit_at (n - 1 - count_leading_zeros n x) x ≡ 1
 leading_set n x ne h =
@@ -236,13 +185,10 @@ leading_clear n k x ne h l =
 
 -- ## How many bits are set
 
-ones_half : (x y : ℕ) → x / 2 ≡ y → ones x ≡ x % 2 + ones y
-ones_half x y e = ones_step x ∙ ap (λ z. x % 2 + ones z) e
-
 pub ones_set : (k x : ℕ) → bit_at k x ≡ 0 → ones (x + 2 ^ k) ≡ suc (ones x)
 unfolding bit_at
-ones_set zero x e = omega (arith, ones_step x, ones_half (x + 1) (x / 2) (omega arith))
-ones_set (suc k) x e = omega (arith, ones_step x, ones_half (x + 2 ^ suc k) (x / 2 + 2 ^ k) (add_half k x), ones_set k (x / 2) e, pow-suc 2 k)
+ones_set zero x e = grind (arith, ones_step)
+ones_set (suc k) x e = grind (arith, ones_step, ones_set k (x / 2) e)
 
 -- clearing a set bit lowers them by one
 pub ones_clear : (k x : ℕ) → bit_at k x ≡ 1 → suc (ones (x - 2 ^ k)) ≡ ones x

@@ -2,12 +2,12 @@
 -- Assumes nothing.
 use mathlib.Core.Path.{◌≡◌, refl, ◌∙◌, ap}
 use mathlib.Core.Logic.{◌↔◌, ◌⊎◌, inl, inr}
-use mathlib.Core.Bool.{Bool, true, false, cond}
+use mathlib.Core.Bool.{true}
 use mathlib.Core.List.Memᴰ
 use mathlib.Core.List.{List, [], ◌∷◌, ◌++◌, Memᴰ, map}
 use Prim.Native.Nat.{ℕ, zero, suc, ◌*◌, ◌≤◌, ◌<◌}
 use native.Mathlib.Omega.{arith}
-use native.Mathlib.Decide.{dec_lt, ℕ_discrete}
+use native.Mathlib.Decide.{dec_lt}
 use lib.Dec.{eqb}
 use lib.ListN.{length, get_or, length-append, get_or-append, get_or-eq_default}
 use lib.Seq.{get_or_at}
@@ -19,7 +19,7 @@ use Rattle.paper.specs.Entry.Found.{start, scan, predict, complete}
 use Rattle.paper.specs.Sheet.{Sheet, list_at, word, waiting}
 use Rattle.paper.specs.Price.{rests}
 use Rattle.paper.specs.Building.{insert_all, below, seeds, predicted, completed, consequences, next_list, first_lists, sheet_of, IsClosed}
-use Rattle.paper.proofs.Lists.{mem_keep, keep_mem, map_mem, mem_flat_map, flat_map_mem, mem_below, below_mem}
+use Rattle.paper.proofs.Lists.{mem_keep, keep_mem, mem_flat_map, flat_map_mem, mem_below, below_mem}
 use Rattle.paper.proofs.Closure.{Climbs, climbs_ascending, Every, insert_all_climbs, every_insert_all, insert_all_has, close_keeps, close_climbs, close_every, close_closed}
 use Rattle.paper.proofs.Universe.{found_possible, possible_same, universe, universe_size, universe_has}
 
@@ -35,12 +35,7 @@ closed_found c (complete {j = j} {e = e} {f = t} f k d m) = c.complete j e t (cl
 -- what holds of the lists there are, of the new one and of no list holds of every list
 grown : (Q : ℕ → List Entry → Type 0) (sheet : Sheet) (list : List Entry) (m : ℕ) → length sheet ≡ m → ((j : ℕ) → j < m → Q j (list_at sheet j)) → Q m list → ((j : ℕ) → Q j [])
     → (j : ℕ) → Q j (list_at (sheet ++ (list ∷ [])) j)
-grown Q sheet list m len old new none j = go (dec_lt j m) (ℕ_discrete j m)
-  where
-    go : Dec (j < m) → Dec (j ≡ m) → Q j (list_at (sheet ++ (list ∷ [])) j)
-    go (yes l) d = rw (get_or-append sheet (list ∷ []) [] j (omega arith)) (old j l)
-    go (no l) (yes e) = rw (e, get_or_at sheet list [] [] m len) new
-    go (no l) (no ne) = rw (get_or-eq_default (sheet ++ (list ∷ [])) [] {n = j} (omega (arith, length-append sheet (list ∷ []), ne))) (none j)
+grown Q sheet list m len old new none j = grind (arith, get_or-append, get_or_at, get_or-eq_default, length-append)
 
 module _ (g : Grammar) where
   -- ---- what the steps give
@@ -51,10 +46,7 @@ module _ (g : Grammar) where
 
   predicted_mem : {x : Entry} (j : ℕ) (e : Entry) → Memᴰ x (predicted g j e) → (h : ℕ) × (h < rule_count g) × (may_take g (left g h) e.rest ≡ true) × (x ≡ fresh g h j)
   unfolding predicted
-  predicted_mem j e m =
-      let r = map_mem (λ k. fresh g k j) (keep (λ k. may_take g (left g k) e.rest) (below (rule_count g))) m in
-      let k = keep_mem (λ h. may_take g (left g h) e.rest) (below (rule_count g)) r.1 in
-      (r.0, below_mem (rule_count g) k.0, k.1, r.2)
+  predicted_mem j e m = grind (arith, Memᴰ.of_map, keep_mem, below_mem)
 
   mem_waiting : {e : Entry} (a : ℕ) (list : List Entry) → Memᴰ e list → may_take g a e.rest ≡ true → Memᴰ (taking a e) (map (taking a) (waiting g a list))
   unfolding waiting
@@ -62,28 +54,17 @@ module _ (g : Grammar) where
 
   waiting_mem : {x : Entry} (a : ℕ) (list : List Entry) → Memᴰ x (map (taking a) (waiting g a list)) → (e : Entry) × Memᴰ e list × (may_take g a e.rest ≡ true) × (x ≡ taking a e)
   unfolding waiting
-  waiting_mem a list m =
-      let r = map_mem (taking a) (keep (λ e. may_take g a e.rest) list) m in
-      let k = keep_mem (λ e. may_take g a e.rest) list r.1 in
-      (r.0, k.0, k.1, r.2)
+  waiting_mem a list m = grind (arith, Memᴰ.of_map, keep_mem)
 
   mem_completed : {e : Entry} (lists : Sheet) (f : Entry) → finished f ≡ true → Memᴰ e (list_at lists f.origin) → may_take g (left g f.rule) e.rest ≡ true
       → Memᴰ (taking (left g f.rule) e) (completed g lists f)
   unfolding completed
-  mem_completed lists f d m t = rw d (mem_waiting (left g f.rule) (list_at lists f.origin) m t)
+  mem_completed lists f d m t = grind (arith, mem_waiting)
 
   completed_mem : {x : Entry} (lists : Sheet) (f : Entry) → Memᴰ x (completed g lists f)
       → (finished f ≡ true) × ((e : Entry) × Memᴰ e (list_at lists f.origin) × (may_take g (left g f.rule) e.rest ≡ true) × (x ≡ taking (left g f.rule) e))
   unfolding completed
-  completed_mem {x} lists f m = go (finished f) refl m
-    where
-      all : List Entry
-      all = map (taking (left g f.rule)) (waiting g (left g f.rule) (list_at lists f.origin))
-
-      go : (b : Bool) → finished f ≡ b → Memᴰ x (cond b all [])
-          → (finished f ≡ true) × ((e : Entry) × Memᴰ e (list_at lists f.origin) × (may_take g (left g f.rule) e.rest ≡ true) × (x ≡ taking (left g f.rule) e))
-      go true d n = (d, waiting_mem (left g f.rule) (list_at lists f.origin) n)
-      go false d n = absurd (Memᴰ.not-nil n)
+  completed_mem {x} lists f m = grind (arith, waiting_mem)
 
   -- the lists as a round sees them
   abbrev seen : Sheet → List Entry → Sheet
@@ -114,9 +95,9 @@ module _ (g : Grammar) where
     seeds_found : (sheet : Sheet) (m : ℕ) → m ≤ length row → Sound sheet → Every (Found g row m) (seeds g row sheet m)
     unfolding seeds
     seeds_found sheet zero l sound x n =
-        let r = map_mem (λ h. fresh g h 0) (keep (λ h. eqb (left g h) g.start) (below (rule_count g))) n in
+        let r = Memᴰ.of_map (λ h. fresh g h 0) (keep (λ h. eqb (left g h) g.start) (below (rule_count g))) n in
         let k = keep_mem (λ h. eqb (left g h) g.start) (below (rule_count g)) r.1 in
-        rw r.2 (start r.0 (below_mem (rule_count g) k.0) (eqb-true (left g r.0) g.start k.1))
+        rw (← r.2) (start r.0 (below_mem (rule_count g) k.0) (eqb-true (left g r.0) g.start k.1))
     seeds_found sheet (suc j) l sound x n =
         let r = waiting_mem (get_or row j 0) (list_at sheet j) n in
         rw r.3 (scan (sound j r.0 r.1) l r.2)
@@ -146,7 +127,7 @@ module _ (g : Grammar) where
 
     module _ (is : IsGrammar g) (sheet : Sheet) (m : ℕ) (len : length sheet ≡ m) (within : m ≤ length row) (short : length row ≤ 64) (sound : Sound sheet) where
       same : (x y : Entry) → Found g row m x → Found g row m y → word g x ≡ word g y → x ≡ y
-      same x y f h = possible_same g is m (omega arith) x y (found_possible f) (found_possible h)
+      same x y f h = grind (arith, possible_same, found_possible)
 
       -- what the rounds begin with
       abbrev first : List Entry
@@ -192,22 +173,14 @@ module _ (g : Grammar) where
           → Memᴰ (taking (left g f.rule) e) (list_at sheet j)
 
     done_none : Done 0 []
-    done_none = record {
-      lists = refl;
-      climbs = λ j. tt;
-      sound = λ j x n. absurd (Memᴰ.not-nil n);
-      begins = λ l. absurd (let z : ⊥ = omega arith in z);
-      scans = λ j e n. absurd (Memᴰ.not-nil n);
-      predicts = λ j h e n. absurd (Memᴰ.not-nil n);
-      completes = λ j e f n. absurd (Memᴰ.not-nil n);
-    }
+    done_none = grind arith
 
     module _ (is : IsGrammar g) (sheet : Sheet) (m : ℕ) (done : Done m sheet) (within : m ≤ length row) (short : length row ≤ 64) where
       abbrev new : List Entry
       new = next_list g row m sheet
 
       at_old : (j : ℕ) → j < m → list_at (seen sheet new) j ≡ list_at sheet j
-      at_old j l = get_or-append sheet (new ∷ []) [] j (omega (arith, done.lists))
+      at_old j l = grind (arith, get_or-append)
 
       at_new : list_at (seen sheet new) m ≡ new
       at_new = get_or_at sheet new [] [] m done.lists
@@ -279,7 +252,7 @@ module _ (g : Grammar) where
     length_first : (m : ℕ) → length (first_lists g row m) ≡ m
     unfolding first_lists
     length_first zero = refl
-    length_first (suc m) = omega (arith, length-append (first_lists g row m) (next_list g row m (first_lists g row m) ∷ []), length_first m)
+    length_first (suc m) = grind (arith, length-append, length_first m)
 
     -- there are lists 0 to n
     pub sheet_lists : length (sheet_of g row) ≡ suc (length row)

@@ -9,7 +9,7 @@ use Prim.Native.Nat.{ℕ, zero, suc, ◌+◌, ◌≤◌, ◌<◌}
 use native.Mathlib.Omega.{arith}
 use lib.Dec.{eqb, ltb}
 use lib.ListN.{length, get_or}
-use borrow.Author.Tests.{eqb-true, eqb-false, ltb-true, ltb-false}
+use borrow.Author.Tests.{eqb-true, eqb-false, ltb-true}
 use Rattle.paper.specs.Multiset.{StrictlyAscending}
 use Rattle.paper.specs.Building.{insert, insert_all, close}
 use Rattle.paper.proofs.Lists.{Distinct, pigeonhole}
@@ -26,13 +26,13 @@ climbs_lower b c [] l h = tt
 climbs_lower b c (a ∷ s) l h = (omega arith, h.1)
 
 climbs_at : (b : ℕ) (s : List ℕ) (i : ℕ) → Climbs b s → i < length s → b ≤ get_or s i 0
-climbs_at b [] i h l = absurd (let z : ⊥ = omega arith in z)
+climbs_at b [] i h l = absurd (omega arith)
 climbs_at b (a ∷ s) zero h l = h.0
 climbs_at b (a ∷ s) (suc i) h l = let k = climbs_at (suc a) s i h.1 (omega arith) in omega arith
 
 climbs_up : (b : ℕ) (s : List ℕ) (i j : ℕ) → Climbs b s → i < j → j < length s → get_or s i 0 < get_or s j 0
-climbs_up b [] i j h l k = absurd (let z : ⊥ = omega arith in z)
-climbs_up b (a ∷ s) i zero h l k = absurd (let z : ⊥ = omega arith in z)
+climbs_up b [] i j h l k = absurd (omega arith)
+climbs_up b (a ∷ s) i zero h l k = absurd (omega arith)
 climbs_up b (a ∷ s) zero (suc j) h l k = climbs_at (suc a) s j h.1 (omega arith)
 climbs_up b (a ∷ s) (suc i) (suc j) h l k = climbs_up (suc a) s i j h.1 (omega arith) (omega arith)
 
@@ -57,24 +57,15 @@ module _ {A : Type 0} (key : A → ℕ) where
 
   pub climbs_distinct : (b : ℕ) (s : List A) → Climbs b (map key s) → Distinct s
   climbs_distinct b [] h = tt
-  climbs_distinct b (x ∷ s) h = (λ m. let k = climbs_above (suc (key x)) s h.1 m in omega arith, climbs_distinct (suc (key x)) s h.1)
+  climbs_distinct b (x ∷ s) h = grind (arith, climbs_above, climbs_distinct (suc (key x)) s h.1)
 
   -- the head of one ascending list is the head of the other, if each stands in the other
   heads : {x y : A} (s t : List A) → Climbs (suc (key x)) (map key s) → Climbs (suc (key y)) (map key t) → Memᴰ x (y ∷ t) → Memᴰ y (x ∷ s) → x ≡ y
-  heads {x} {y} s t h k m n = go (Memᴰ.cases_cons m) (Memᴰ.cases_cons n)
-    where
-      go : (x ≡ y) ⊎ Memᴰ x t → (y ≡ x) ⊎ Memᴰ y s → x ≡ y
-      go (inl q) o = q
-      go (inr u) (inl q) = sym q
-      go (inr u) (inr v) = absurd (let z : ⊥ = omega (arith, climbs_above (suc (key y)) t k u, climbs_above (suc (key x)) s h v) in z)
+  heads {x} {y} s t h k m n = grind (arith, climbs_above)
 
   -- what stands behind the head of one stands behind the head of the other
   behind : {x y z : A} (s t : List A) → x ≡ y → Climbs (suc (key x)) (map key s) → Memᴰ z s → Memᴰ z (y ∷ t) → Memᴰ z t
-  behind {x} {y} {z} s t e h m n = go (Memᴰ.cases_cons n)
-    where
-      go : (z ≡ y) ⊎ Memᴰ z t → Memᴰ z t
-      go (inl q) = absurd (let k : ⊥ = omega (arith, climbs_above (suc (key x)) s h m, ap key q, ap key e) in k)
-      go (inr u) = u
+  behind {x} {y} {z} s t e h m n = grind (arith, climbs_above)
 
   -- two ascending lists with the same members are equal
   pub climbs_same : (b c : ℕ) (s t : List A) → Climbs b (map key s) → Climbs c (map key t) → ((x : A) → Memᴰ x s → Memᴰ x t) → ((x : A) → Memᴰ x t → Memᴰ x s) → s ≡ t
@@ -122,20 +113,7 @@ module _ {A : Type 0} (key : A → ℕ) where
         → (suc (key y) ≤ key x → Climbs (suc (key y)) (map key r)) → Climbs a (map key (step b c))
     step_climbs a true c e f low h ih = (low, (ltb-true (key x) (key y) e, h.1))
     step_climbs a false true e f low h ih = h
-    step_climbs a false false e f low h ih =
-        let u : key x ≡ key y → ⊥ = eqb-false (key x) (key y) f in
-        let v : key y ≤ key x = ltb-false (key x) (key y) e in
-        (h.0, ih (omega (arith, u)))
-
-    step_longer : (b c : Bool) → length s ≤ length r → length (y ∷ s) ≤ length (step b c)
-    step_longer true c ih = omega arith
-    step_longer false true ih = omega arith
-    step_longer false false ih = omega arith
-
-    step_same : (b c : Bool) → length (step b c) ≡ length (y ∷ s) → (length r ≡ length s → r ≡ s) → step b c ≡ y ∷ s
-    step_same true c e ih = absurd (let z : ⊥ = omega arith in z)
-    step_same false true e ih = refl
-    step_same false false e ih = ap (y ∷◌) (ih (omega arith))
+    step_climbs a false false e f low h ih = grind arith
 
   insert_keeps : {z : A} (x : A) (s : List A) → Memᴰ z s → Memᴰ z (insert key x s)
   unfolding insert
@@ -162,12 +140,12 @@ module _ {A : Type 0} (key : A → ℕ) where
   insert_longer : (x : A) (s : List A) → length s ≤ length (insert key x s)
   unfolding insert
   insert_longer x [] = omega arith
-  insert_longer x (y ∷ s) = step_longer x y s (insert key x s) (ltb (key x) (key y)) (eqb (key x) (key y)) (insert_longer x s)
+  insert_longer x (y ∷ s) = grind (arith, insert_longer x s)
 
   insert_same : (x : A) (s : List A) → length (insert key x s) ≡ length s → insert key x s ≡ s
   unfolding insert
-  insert_same x [] e = absurd (let z : ⊥ = omega arith in z)
-  insert_same x (y ∷ s) e = step_same x y s (insert key x s) (ltb (key x) (key y)) (eqb (key x) (key y)) e (insert_same x s)
+  insert_same x [] e = absurd (omega arith)
+  insert_same x (y ∷ s) e = grind (arith, insert_same x s)
 
   -- ---- inserting many
 
@@ -199,11 +177,7 @@ Every {A} P s = (x : A) → Memᴰ x s → P x
 
 module _ {A : Type 0} (key : A → ℕ) (P : A → Type 0) where
   every_insert : (x : A) (s : List A) → P x → Every P s → Every P (insert key x s)
-  every_insert x s px ps z m = go (insert_from key x s m)
-    where
-      go : (z ≡ x) ⊎ Memᴰ z s → P z
-      go (inl q) = rw q px
-      go (inr n) = ps z n
+  every_insert x s px ps z m = grind (arith, insert_from)
 
   pub every_insert_all : (xs s : List A) → Every P xs → Every P s → Every P (insert_all key xs s)
   unfolding insert_all
@@ -234,11 +208,7 @@ module _ {A : Type 0} (key : A → ℕ) (consequences : List A → List A) where
   close_holds : (Q : List A → Type 0) → ((s : List A) → Q s → Q (next s)) → (fuel : ℕ) (s : List A) → Q s → Q (close key consequences fuel s)
   unfolding close
   close_holds Q go_on zero s h = h
-  close_holds Q go_on (suc fuel) s h = go (eqb (length (next s)) (length s)) refl (close_holds Q go_on fuel (next s) (go_on s h))
-    where
-      go : (b : Bool) → eqb (length (next s)) (length s) ≡ b → Q (close key consequences fuel (next s)) → Q (close key consequences (suc fuel) s)
-      go true e ih = rw (e, close) h
-      go false e ih = rw (e, close) ih
+  close_holds Q go_on (suc fuel) s h = grind (arith, close_holds Q go_on fuel (next s) (go_on s h))
 
   pub close_keeps : {z : A} (fuel : ℕ) (s : List A) → Memᴰ z s → Memᴰ z (close key consequences fuel s)
   close_keeps {z} = close_holds (λ s. Memᴰ z s) (λ s m. insert_all_keeps key (consequences s) s m)
@@ -257,8 +227,7 @@ module _ {A : Type 0} (key : A → ℕ) (consequences : List A → List A) where
     pub close_closed : (fuel : ℕ) (s : List A) → length universe < fuel + length s → Climbs 0 (map key s) → Every P s
         → Every (λ x. Memᴰ x (close key consequences fuel s)) (consequences (close key consequences fuel s))
     unfolding close
-    close_closed zero s enough h hs =
-        absurd (let z : ⊥ = omega (arith, pigeonhole s universe (climbs_distinct key 0 s h) (λ x m. finite x (hs x m))) in z)
+    close_closed zero s enough h hs = grind (arith, pigeonhole, climbs_distinct)
     close_closed (suc fuel) s enough h hs =
         go (eqb (length (next s)) (length s)) refl (λ l. close_closed fuel (next s) l (insert_all_climbs key (consequences s) s h) (every_insert_all key P (consequences s) s (derived s hs) hs))
       where

@@ -1,26 +1,23 @@
 -- An admitted image means a grammar: what each of the refusals 10 to 14 shuts out.
 -- Assumes nothing.
 use mathlib.Core.Path.{◌≡◌, refl, sym, ◌∙◌, subst⁻¹}
-use mathlib.Core.Bool.{Bool, true, false, and-eq-true_iff}
-use mathlib.Core.List.{List, []}
-use Rattle.std.specs.Prelude.{Option, Some, None}
+use mathlib.Core.Bool.{true, false}
+use mathlib.Core.List.{List}
+use Rattle.std.specs.Prelude.{Some, None}
 use Prim.Native.Nat.{ℕ, zero, suc, ◌+◌, ◌*◌, ◌≤◌, ◌<◌}
 use native.Mathlib.Omega.{arith}
-use lib.Dec.{ltb}
 use lib.ListN.{length, drop, length-drop, get_or-eq_default}
 use lib.Seq.{length-take-le, get_or-take, get_or-drop}
-use borrow.Author.Tests.{eqb-true, eq-eqb, le-leb, lt-ltb, leb-true, ltb-true, ltb-false}
 use Rattle.paper.specs.Grammar.{Grammar, rule_count, rule_at, StrictPartialOrder, IsGrammar}
-use Rattle.paper.specs.Image.{byte, two_bytes, kind, offset, extent, body, contents_right, symbols_right, rules_fault, pair_fault, closing_fault}
-use Rattle.paper.specs.Image.{refuse, wrong_if, image_terminals, image_symbols, image_pairs, image_fault, grammar_of, house, pairs_of, rules_of, rule_of, paired}
+use Rattle.paper.specs.Image.{byte, kind, offset, extent, body, contents_right, symbols_right, rules_fault, pair_fault, closing_fault}
+use Rattle.paper.specs.Image.{image_terminals, image_symbols, image_pairs, image_fault, grammar_of, house, pairs_of, rules_of, rule_of, paired}
 use Rattle.paper.specs.Image.{record_fault, record_right, ascends, all_below, record_before, chained}
 use Rattle.paper.specs.Records.{record_at}
 use Rattle.paper.specs.Demands.{IsHouse}
 use Rattle.paper.specs.declared.Refusal.{Refusal}
-use Rattle.paper.specs.declared.Fault.{Fault}
 use Rattle.paper.specs.Written.{AreBytes}
 use Rattle.paper.proofs.Records.{rules_count, rules_at, RightRule, RightRules, record_is, rules_right, rules_unlike, records_fill, place_below}
-use Rattle.paper.proofs.Order.{written_cases, closed_order, pairs_right, pairs_few}
+use Rattle.paper.proofs.Order.{closed_order, pairs_right, pairs_few}
 
 -- The five tests that an image passes.
 pub record Admitted (b : List ℕ) : Type 0 where
@@ -29,15 +26,6 @@ pub record Admitted (b : List ℕ) : Type 0 where
   pub rules : rules_fault (image_terminals b) (image_symbols b) (body b 1) ≡ None
   pub pairs : pair_fault (image_symbols b) 0 0 (body b 2) ≡ None
   pub closed : closing_fault (image_pairs b) 0 (image_pairs b) ≡ None
-
--- where nothing is refused, nothing is at fault
-passed : (why : Refusal) (spot : Option ℕ) (next : Option Fault) → refuse why spot next ≡ None → (spot ≡ None) × (next ≡ None)
-passed why None next h = (refl, h)
-passed why (Some k) next h = absurd (let z : ⊥ = cc in z)
-
-right_is : (right : Bool) → wrong_if right ≡ None → right ≡ true
-right_is true h = refl
-right_is false h = absurd (let z : ◌≡◌ {A = ℕ} 0 1 = cc in let k : ⊥ = omega arith in k)
 
 -- What `symbols_right` says.
 pub record RightSymbols (s : List ℕ) : Type 0 where
@@ -51,30 +39,11 @@ pub record RightSymbols (s : List ℕ) : Type 0 where
 -- the test and what it says, both ways
 pub symbols_right_lem : (s : List ℕ) → symbols_right s ≡ true → RightSymbols s
 unfolding symbols_right
-symbols_right_lem s h = let k = simp and-eq-true_iff at h in omega (arith, eqb-true, leb-true, ltb-true)
+symbols_right_lem s h = grind arith
 
 pub symbols_check : (s : List ℕ) → RightSymbols s → symbols_right s ≡ true
 unfolding symbols_right
-symbols_check s c =
-    simp and-eq-true_iff (
-      eq-eqb (length s) 3 c.size,
-      (
-        le-leb 1 (byte s 0) c.a_terminal,
-        (
-          le-leb 1 (byte s 1) c.a_nonterminal,
-          (
-            le-leb (byte s 0 + byte s 1) 64 c.few,
-            (
-              le-leb (byte s 0) (byte s 2) c.start_above,
-              (
-                lt-ltb (byte s 2) (byte s 0 + byte s 1) c.start_below,
-                refl,
-              ),
-            ),
-          ),
-        ),
-      ),
-    )
+symbols_check s c = grind arith
 
 -- What `contents_right` says.
 pub record RightContents (b : List ℕ) : Type 0 where
@@ -92,64 +61,21 @@ pub record RightContents (b : List ℕ) : Type 0 where
 -- the test and what it says, both ways
 pub contents_right_lem : (b : List ℕ) → contents_right b ≡ true → RightContents b
 unfolding contents_right
-contents_right_lem b h = let k = simp and-eq-true_iff at h in omega (arith, eqb-true, leb-true)
+contents_right_lem b h = grind arith
 
 pub contents_check : (b : List ℕ) → RightContents b → contents_right b ≡ true
 unfolding contents_right
-contents_check b c =
-    simp and-eq-true_iff (
-      le-leb 17 (length b) c.size,
-      (
-        eq-eqb (byte b 0) 1 c.form,
-        (
-          eq-eqb (byte b 1) 3 c.bodies,
-          (
-            eq-eqb (kind b 0) 1 c.kind_0,
-            (
-              eq-eqb (kind b 1) 2 c.kind_1,
-              (
-                eq-eqb (kind b 2) 3 c.kind_2,
-                (
-                  eq-eqb (offset b 0) 17 c.offset_0,
-                  (
-                    eq-eqb (offset b 1) (offset b 0 + extent b 0) c.offset_1,
-                    (
-                      eq-eqb (offset b 2) (offset b 1 + extent b 1) c.offset_2,
-                      (
-                        eq-eqb (length b) (offset b 2 + extent b 2) c.ends,
-                        refl,
-                      ),
-                    ),
-                  ),
-                ),
-              ),
-            ),
-          ),
-        ),
-      ),
-    )
+contents_check b c = grind arith
 
 -- An image is admitted where it passes the five tests ..
 pub admitted : (b : List ℕ) → image_fault b ≡ None → Admitted b
 unfolding image_fault
-admitted b h =
-    let k = passed Refusal.Contents (wrong_if (contents_right b)) _ h in
-    let l = passed Refusal.Symbols (wrong_if (symbols_right (body b 0))) _ k.1 in
-    let m = passed Refusal.Rules (rules_fault (image_terminals b) (image_symbols b) (body b 1)) _ l.1 in
-    let n = passed Refusal.Order (pair_fault (image_symbols b) 0 0 (body b 2)) _ m.1 in
-    let o = passed Refusal.Chain (closing_fault (image_pairs b) 0 (image_pairs b)) _ n.1 in
-    record {
-      contents = right_is (contents_right b) k.0;
-      symbols = right_is (symbols_right (body b 0)) l.0;
-      rules = m.0;
-      pairs = n.0;
-      closed = o.0;
-    }
+admitted b h = grind arith
 
 -- .. and an image that passes them is admitted
 pub not_refused : (b : List ℕ) → Admitted b → image_fault b ≡ None
 unfolding image_fault
-not_refused b a = rw (a.contents, a.symbols, a.rules, a.pairs, a.closed)
+not_refused b a = cc
 
 -- Each refusal holds where its test fails and those before it do not.
 
@@ -171,12 +97,12 @@ module _ (b : List ℕ) where
       module _ (rules : rules_fault (image_terminals b) (image_symbols b) (body b 1) ≡ None) where
         pub refused_pairs : (k : ℕ) → pair_fault (image_symbols b) 0 0 (body b 2) ≡ Some k → image_fault b ≡ Some (record { why = Refusal.Order; place = k })
         unfolding image_fault
-        refused_pairs k h = rw (contents, symbols, rules, h)
+        refused_pairs k h = cc
 
         pub refused_closing : (k : ℕ) → pair_fault (image_symbols b) 0 0 (body b 2) ≡ None → closing_fault (image_pairs b) 0 (image_pairs b) ≡ Some k
             → image_fault b ≡ Some (record { why = Refusal.Chain; place = k })
         unfolding image_fault
-        refused_closing k pairs h = rw (contents, symbols, rules, pairs, h)
+        refused_closing k pairs h = cc
 
 -- A grammar from three bodies that are right.
 
@@ -192,7 +118,7 @@ module _ (s r p : List ℕ) (symbols : RightSymbols s) (rules : RightRules (byte
 
   rule_is : (h : ℕ) → h < rule_count (parts_grammar s r p) → rule_at (parts_grammar s r p) h ≡ rule_of (record_at h (drop 1 r))
   unfolding parts_grammar
-  rule_is h l = rules_at (byte r 0) h (drop 1 r) (record { left = 0; members = [] }) (below_count h l)
+  rule_is h l = search (rules, rules_at, below_count)
 
   rule_right : (h : ℕ) → h < rule_count (parts_grammar s r p) → RightRule (byte s 0) (byte s 0 + byte s 1) (rule_at (parts_grammar s r p) h)
   rule_right h l = subst⁻¹ (RightRule (byte s 0) (byte s 0 + byte s 1)) (rule_is h l) (record_is rules.records h (below_count h l)).rule
@@ -219,7 +145,7 @@ module _ (s r p : List ℕ) (symbols : RightSymbols s) (rules : RightRules (byte
 -- an image means the grammar of its bodies
 pub grammar_of_bodies : (b s r p : List ℕ) → body b 0 ≡ s → body b 1 ≡ r → body b 2 ≡ p → grammar_of b ≡ parts_grammar s r p
 unfolding grammar_of parts_grammar
-grammar_of_bodies b s r p e f g = λ i. parts_grammar (e i) (f i) (g i)
+grammar_of_bodies b s r p e f g = cc
 
 -- An admitted image means a grammar.
 pub image_grammar : (b : List ℕ) → image_fault b ≡ None → IsGrammar (grammar_of b)
@@ -234,43 +160,35 @@ image_grammar b h =
 -- there are as many rules as the first byte of the rules body says
 pub image_count : (b : List ℕ) → rule_count (grammar_of b) ≡ byte (body b 1) 0
 unfolding grammar_of
-image_count b = rules_count (byte (body b 1) 0) (drop 1 (body b 1))
+image_count b = simp rules_count
 
 -- rule h is the one that record h of the rules body means
 pub image_rule : (b : List ℕ) (h : ℕ) → h < byte (body b 1) 0 → rule_at (grammar_of b) h ≡ rule_of (record_at h (drop 1 (body b 1)))
 unfolding grammar_of
-image_rule b h l = rules_at (byte (body b 1) 0) h (drop 1 (body b 1)) (record { left = 0; members = [] }) l
+image_rule b h l = grind (arith, rules_at)
 
 -- each body lies inside the image
 pub body_inside : (b : List ℕ) → RightContents b → (k : ℕ) → k < 3 → offset b k + extent b k ≤ length b
 body_inside b c zero l = omega arith
 body_inside b c (suc zero) l = omega arith
 body_inside b c (suc (suc zero)) l = omega arith
-body_inside b c (suc (suc (suc k))) l = absurd (let z : ⊥ = omega arith in z)
+body_inside b c (suc (suc (suc k))) l = absurd (omega arith)
 
 -- and has the length that its entry tells
 pub body_length : (b : List ℕ) → RightContents b → (k : ℕ) → k < 3 → length (body b k) ≡ extent b k
-body_length b c k l = length-take-le (extent b k) (drop (offset b k) b) (omega (arith, length-drop (offset b k) b, body_inside b c k l))
+body_length b c k l = grind (arith, length-take-le, length-drop)
 
 -- byte i of body k
 pub body_byte : (b : List ℕ) (k i : ℕ) → i < extent b k → byte (body b k) i ≡ byte b (offset b k + i)
-body_byte b k i l = get_or-take (extent b k) (drop (offset b k) b) i 0 l ∙ get_or-drop (offset b k) b i 0
+body_byte b k i l = grind (arith, get_or-take, get_or-drop)
 
 -- a byte, and so is the 0 past the end
 pub byte_below : (b : List ℕ) → AreBytes b → (k : ℕ) → byte b k < 256
-byte_below b h k = go (ltb k (length b)) refl
-  where
-    go : (t : Bool) → ltb k (length b) ≡ t → byte b k < 256
-    go true e = h.below k (ltb-true k (length b) e)
-    go false e = rw (get_or-eq_default b 0 {n = k} (ltb-false k (length b) e)) (omega arith)
-
--- an offset or a length is below 65,536
-pub two_bytes_below : (b : List ℕ) → AreBytes b → (k : ℕ) → two_bytes b k < 65536
-two_bytes_below b h k = omega (arith, byte_below b h k, byte_below b h (k + 1))
+byte_below b h k = grind (arith, get_or-eq_default)
 
 -- an image whose contents are right ends where the last offset and length say
 pub contents_length : (b : List ℕ) → AreBytes b → RightContents b → length b ≤ 131070
-contents_length b h c = omega (arith, c.ends, two_bytes_below b h (3 + 5 * 2), two_bytes_below b h (5 + 5 * 2))
+contents_length b h c = omega arith
 
 -- an admitted image has contents, symbols, at most 96 rules of 10 bytes and 4,096 pairs
 pub image_length : (b : List ℕ) → Admitted b → length b ≤ 17 + 3 + (1 + 10 * 96) + 2 * 4096
@@ -298,12 +216,4 @@ house_admitted = refl
 -- The house image means it.
 pub house_means : IsHouse (grammar_of house)
 unfolding grammar_of rules_of pairs_of paired
-house_means =
-    record {
-      terminals_are = refl;
-      nonterminals_are = refl;
-      start_is = refl;
-      rules_are = refl;
-      value_before_unit = refl;
-      no_other = λ a b h. written_cases (record { earlier = 1; later = 2 }) [] a b h (λ e f. (sym e, sym f)) (λ n. absurd (let z : ◌≡◌ {A = ℕ} 0 1 = cc in let l : ⊥ = omega arith in l));
-    }
+house_means = grind arith

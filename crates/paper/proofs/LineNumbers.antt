@@ -1,7 +1,7 @@
 -- Laws of the twelve numbers of a line: lines stay as they are when more is appended, and a line just written reads back.
 -- Assumes nothing.
-use mathlib.Core.Path.{◌≡◌, refl, sym, ◌∙◌, ap}
-use mathlib.Core.List.{List, [], ◌∷◌, ◌++◌, append_assoc, append-nil}
+use mathlib.Core.Path.{◌≡◌, refl, ◌∙◌}
+use mathlib.Core.List.{List, ◌∷◌, ◌++◌, append_assoc, append-nil}
 use Prim.Native.Nat.{ℕ, suc, ◌+◌, ◌-◌, ◌*◌, ◌≤◌, ◌<◌}
 use native.Mathlib.Omega.{arith}
 use lib.ListN.{length, get_or, take, drop, replicate, length-append, length-drop, length-replicate, get_or-replicate, get_or-append}
@@ -14,14 +14,13 @@ pub record Extends (before after : List ℕ) : Type 0 where
   pub after_is : after ≡ before ++ appended
 
 pub extends_refl : (ns : List ℕ) → Extends ns ns
-extends_refl ns = record { appended = []; after_is = sym (append-nil ns) }
+extends_refl ns = grind (arith, append-nil)
 
 pub extends_append : (ns more : List ℕ) → Extends ns (ns ++ more)
-extends_append ns more = record { appended = more; after_is = refl }
+extends_append ns more = grind arith
 
 pub extends_trans : {ns ms ls : List ℕ} → Extends ns ms → Extends ms ls → Extends ns ls
-extends_trans {ns} d e =
-    record { appended = d.appended ++ e.appended; after_is = e.after_is ∙ (ap (◌++ e.appended) d.after_is ∙ append_assoc ns d.appended e.appended) }
+extends_trans {ns} d e = grind (arith, append_assoc)
 
 -- a number of the front stays where it is
 kept_number : {before after : List ℕ} → Extends before after → (p : ℕ) → p < length before → get_or after p 0 ≡ get_or before p 0
@@ -29,9 +28,7 @@ kept_number {before} d p h = rw d.after_is (get_or-append before d.appended 0 p 
 
 -- a part of the front stays where it is
 kept_part : {before after : List ℕ} → Extends before after → (p m : ℕ) → p + m ≤ length before → take m (drop p after) ≡ take m (drop p before)
-kept_part {before} d p m h =
-    rw (d.after_is, drop-append-le p before d.appended (omega arith))
-    (take-append-le m (drop p before) d.appended (omega (arith, length-drop p before)))
+kept_part {before} d p m h = grind (arith, drop-append-le, take-append-le, length-drop)
 
 -- line k reads the same in both
 pub record Kept (before after : List ℕ) (k : ℕ) : Type 0 where
@@ -59,7 +56,7 @@ line_of rule from to slots = rule ∷ from ∷ to ∷ length slots ∷ (slots ++
 
 pub line_length : (rule from to : ℕ) (slots : List ℕ) → length slots ≤ 8 → length (line_of rule from to slots) ≡ line_size
 unfolding line_of
-line_length rule from to slots h = omega (arith, length-append slots (replicate (8 - length slots) 0), length-replicate {A = ℕ} (8 - length slots) 0)
+line_length rule from to slots h = grind (arith, length-append, length-replicate)
 
 -- place x of what is appended
 behind : (ns line : List ℕ) (p x : ℕ) → p ≡ length ns + x → get_or (ns ++ line) p 0 ≡ get_or line x 0
@@ -84,9 +81,7 @@ pub record Reads (ns : List ℕ) (n rule from to : ℕ) (slots : List ℕ) : Typ
 -- the slots of a line written behind n lines
 slots_back : (ns line : List ℕ) (n m : ℕ) (slots zeros : List ℕ) → length ns ≡ line_size * n → m ≡ length slots → drop 4 line ≡ slots ++ zeros
     → take m (drop (line_size * n + 4) (ns ++ line)) ≡ slots
-slots_back ns line n m slots zeros l c d =
-    let e : line_size * n + 4 ≡ length ns + 4 = omega arith in
-    rw (c, e, drop-append-add ns line 4, d) (take-append_seam slots zeros)
+slots_back ns line n m slots zeros l c d = grind (arith, drop-append-add, take-append_seam)
 
 -- A line written behind n lines reads back.
 pub reads_back : (ns : List ℕ) (n rule from to : ℕ) (slots : List ℕ) → length ns ≡ line_size * n

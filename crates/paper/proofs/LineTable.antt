@@ -9,7 +9,7 @@ use lib.ListN.{length, length-append}
 use Rattle.paper.specs.Multiset.{Arrangement}
 use Rattle.paper.specs.Grammar.{Grammar, IsGrammar, rule_count, left, members}
 use Rattle.paper.specs.Derivation.{Acceptable}
-use Rattle.paper.specs.Lines.{line_size, line_rule, line_from, line_to, line_parts, line_symbol, Joins, LineRight, Uses}
+use Rattle.paper.specs.Lines.{line_size, line_from, line_to, line_parts, line_symbol, Joins, LineRight, Uses}
 use Rattle.paper.proofs.Multiset.{arranged_length}
 use Rattle.paper.proofs.LineNumbers.{Extends, extends_append, kept, line_of, line_length, reads_back}
 
@@ -35,7 +35,7 @@ pub record Used (ns : List ℕ) (n k : ℕ) : Type 0 where
 
 -- a right line has at most eight parts
 few_parts : {g : Grammar} {row ns : List ℕ} {k : ℕ} → IsGrammar g → LineRight g row ns k → line_parts ns k ≤ 8
-few_parts {ns = ns} {k = k} is r = let m = is.few_members (line_rule ns k) r.rule_is in omega (arith, r.parts_are)
+few_parts {ns = ns} {k = k} is r = omega arith
 
 -- each symbol has a slot
 pub joins_length : {g : Grammar} {row ns : List ℕ} {k i j : ℕ} {slots s : List ℕ} → Joins g row ns k slots i j s → length slots ≡ length s
@@ -113,22 +113,14 @@ used_kept {n = n} m is t d b u =
       uses = record { slot = v.slot; is_part = rw same.parts v.is_part; names = same.slot v.slot (omega (arith, v.is_part)) ∙ v.names };
     }
 
--- a line among the first n + 1 that is not among the first n is line n
-newest : {g : Grammar} {ns : List ℕ} {n a i j : ℕ} → (HasLine g ns n a i j → ⊥) → (h : HasLine g ns (suc n) a i j) → h.line ≡ n
-newest {n = n} none h = go (dec_lt h.line n)
-  where
-    go : Dec (h.line < n) → h.line ≡ n
-    go (yes b) = absurd (none (record { line = h.line; below = b; symbol_is = h.symbol_is; from_is = h.from_is; to_is = h.to_is }))
-    go (no b) = let c = h.below in omega arith
-
 -- one line more to look at
 find_step : {g : Grammar} {ns : List ℕ} {n a i j : ℕ} → Dec (HasLine g ns n a i j) → Dec (line_symbol g ns n ≡ a) → Dec (line_from ns n ≡ i) → Dec (line_to ns n ≡ j)
     → Dec (HasLine g ns (suc n) a i j)
-find_step (yes h) s f t = yes (record { line = h.line; below = let b = h.below in omega arith; symbol_is = h.symbol_is; from_is = h.from_is; to_is = h.to_is })
-find_step {n = n} (no none) (yes s) (yes f) (yes t) = yes (record { line = n; below = omega arith; symbol_is = s; from_is = f; to_is = t })
-find_step (no none) (no s) f t = no (λ h. s (rw (newest none h) at h.symbol_is))
-find_step (no none) (yes s) (no f) t = no (λ h. f (rw (newest none h) at h.from_is))
-find_step (no none) (yes s) (yes f) (no t) = no (λ h. t (rw (newest none h) at h.to_is))
+find_step (yes h) s f t = grind arith
+find_step {n = n} (no none) (yes s) (yes f) (yes t) = grind arith
+find_step (no none) (no s) f t = grind arith
+find_step (no none) (yes s) (no f) t = grind arith
+find_step (no none) (yes s) (yes f) (no t) = grind arith
 
 -- Is a line of symbol a over i to j among the first n?
 pub find_line : (g : Grammar) (ns : List ℕ) (a i j n : ℕ) → Dec (HasLine g ns n a i j)

@@ -14,7 +14,7 @@ pub earlier_first : {P : ℕ → Type 0} → ((k : ℕ) → ((earlier : ℕ) →
 earlier_first {P} step k = step k (below k)
   where
     below : (bound : ℕ) (k : ℕ) → k < bound → P k
-    below zero k h = absurd (let z : ⊥ = omega arith in z)
+    below zero k h = absurd (omega arith)
     below (suc bound) k h = step k (λ earlier e. below bound earlier (omega arith))
 
 -- the tree of line k

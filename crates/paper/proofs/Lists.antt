@@ -24,7 +24,7 @@ module _ {A : Type 0} (p : A → Bool) where
       go : (b : Bool) → p y ≡ b → (x ≡ y) ⊎ Memᴰ x s → (Memᴰ x s → Memᴰ x (keep p s)) → Memᴰ x (cond b (y ∷ keep p s) (keep p s))
       go true e (inl q) ih = Memᴰ.head q
       go true e (inr n) ih = Memᴰ.tail (ih n)
-      go false e (inl q) ih = absurd (let z : ◌≡◌ {A = Bool} true false = sym h ∙ (ap p q ∙ e) in let k : ◌≡◌ {A = ℕ} 0 1 = cc in let n : ⊥ = omega arith in n)
+      go false e (inl q) ih = absurd (let z : ◌≡◌ {A = Bool} true false = sym h ∙ (ap p q ∙ e) in cc)
       go false e (inr n) ih = ih n
 
   pub keep_mem : {x : A} (s : List A) → Memᴰ x (keep p s) → Memᴰ x s × (p x ≡ true)
@@ -41,14 +41,6 @@ module _ {A : Type 0} (p : A → Bool) where
       go false e n ih = (Memᴰ.tail (ih n).0, (ih n).1)
 
 module _ {A B : Type 0} where
-  pub map_mem : (f : A → B) {y : B} (s : List A) → Memᴰ y (map f s) → (x : A) × Memᴰ x s × (y ≡ f x)
-  map_mem f [] m = absurd (Memᴰ.not-nil m)
-  map_mem f {y} (a ∷ s) m = go (Memᴰ.cases_cons m) (λ n. map_mem f s n)
-    where
-      go : (y ≡ f a) ⊎ Memᴰ y (map f s) → (Memᴰ y (map f s) → (x : A) × Memᴰ x s × (y ≡ f x)) → (x : A) × Memᴰ x (a ∷ s) × (y ≡ f x)
-      go (inl q) ih = (a, Memᴰ.head refl, q)
-      go (inr n) ih = let r = ih n in (r.0, Memᴰ.tail r.1, r.2)
-
   pub mem_flat_map : (f : A → List B) {x : A} {y : B} (s : List A) → Memᴰ x s → Memᴰ y (f x) → Memᴰ y (flat_map f s)
   unfolding flat_map
   mem_flat_map f [] m n = absurd (Memᴰ.not-nil m)
@@ -69,13 +61,13 @@ module _ {A B : Type 0} where
 
 -- what stands at a place of a list is a member of it; d stands past its end
 pub place_mem : {A : Type 0} (d : A) (s : List A) (k : ℕ) → k < length s → Memᴰ (get_or s k d) s
-place_mem d [] k l = absurd (let z : ⊥ = omega arith in z)
+place_mem d [] k l = absurd (omega arith)
 place_mem d (x ∷ s) zero l = Memᴰ.head refl
 place_mem d (x ∷ s) (suc k) l = Memᴰ.tail (place_mem d s k (omega arith))
 
 pub mem_below : (h n : ℕ) → h < n → Memᴰ h (below n)
 unfolding below
-mem_below h zero l = absurd (let z : ⊥ = omega arith in z)
+mem_below h zero l = absurd (omega arith)
 mem_below h (suc n) l = go (dec_lt h n) (λ k. mem_below h n k)
   where
     go : Dec (h < n) → (h < n → Memᴰ h (below n)) → Memᴰ h (n ∷ below n)
@@ -106,7 +98,7 @@ module _ {A : Type 0} where
 
   sum_less : (weight : A → ℕ) {x : A} {s : List A} (m : Memᴰ x s) → weight x + sum weight (less m) ≡ sum weight s
   unfolding sum
-  sum_less weight (Memᴰ.head {xs = s} e) = ap (λ y. weight y + sum weight s) e
+  sum_less weight (Memᴰ.head {xs = s} e) = cc
   sum_less weight (Memᴰ.tail m) = omega (arith, sum_less weight m)
 
   less_other : {x y : A} {s : List A} (m : Memᴰ x s) → Memᴰ y s → (y ≡ x → ⊥) → Memᴰ y (less m)
@@ -137,7 +129,7 @@ module _ {A : Type 0} where
 
   -- and it is no longer
   pub pigeonhole : (s t : List A) → Distinct s → ((x : A) → Memᴰ x s → Memᴰ x t) → length s ≤ length t
-  pigeonhole s t d h = omega (arith, length_sum s, length_sum t, pigeonhole_sum (λ x. 1) s t d h)
+  pigeonhole s t d h = grind (arith, length_sum, pigeonhole_sum)
 
   pub distinct_append : (s t : List A) → Distinct s → Distinct t → ((x : A) → Memᴰ x s → Memᴰ x t → ⊥) → Distinct (s ++ t)
   distinct_append [] t d e apart = e
@@ -148,20 +140,16 @@ module _ {A : Type 0} where
       go (inr m) = apart x (Memᴰ.head refl) m
 
   pub distinct_places : (d : A) (s : List A) (i j : ℕ) → Distinct s → i < j → j < length s → get_or s i d ≡ get_or s j d → ⊥
-  distinct_places d [] i j h l k e = let z : ⊥ = omega arith in z
-  distinct_places d (x ∷ s) i zero h l k e = let z : ⊥ = omega arith in z
+  distinct_places d [] i j h l k e = omega arith
+  distinct_places d (x ∷ s) i zero h l k e = omega arith
   distinct_places d (x ∷ s) zero (suc j) h l k e = h.0 (Memᴰ.cast e (place_mem d s j (omega arith)))
   distinct_places d (x ∷ s) (suc i) (suc j) h l k e = distinct_places d s i j h.1 (omega arith) (omega arith) e
 
   pub distinct_keep : (p : A → Bool) (s : List A) → Distinct s → Distinct (keep p s)
   unfolding keep
   distinct_keep p [] d = tt
-  distinct_keep p (x ∷ s) d = go (p x) (distinct_keep p s d.1)
-    where
-      go : (b : Bool) → Distinct (keep p s) → Distinct (cond b (x ∷ keep p s) (keep p s))
-      go true ih = (λ m. d.0 (keep_mem p s m).0, ih)
-      go false ih = ih
+  distinct_keep p (x ∷ s) d = grind (arith, keep_mem, distinct_keep p s d.1)
 
 pub distinct_map : {A B : Type 0} (f : A → B) → ((x y : A) → f x ≡ f y → x ≡ y) → (s : List A) → Distinct s → Distinct (map f s)
 distinct_map f inj [] d = tt
-distinct_map f inj (x ∷ s) d = (λ m. let r = map_mem f s m in d.0 (Memᴰ.cast (inj x r.0 r.2) r.1), distinct_map f inj s d.1)
+distinct_map f inj (x ∷ s) d = grind (arith, Memᴰ.of_map, distinct_map f inj s d.1)

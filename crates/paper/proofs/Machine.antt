@@ -1,14 +1,14 @@
 -- The laws of taking: what the rest of a rule lets be taken, and that what is taken in turn is acceptable. They are all that others need of the order.
 -- Assumes nothing.
 use mathlib.Core.Path.{◌≡◌, refl}
-use mathlib.Core.Bool.{Bool, true, false, not, ◌&&◌, ◌||◌}
+use mathlib.Core.Bool.{Bool, true, false, ◌&&◌}
 use mathlib.Core.Logic.{◌↔◌}
 use mathlib.Core.List.{List, [], ◌∷◌, ◌++◌}
 use Prim.Native.Nat.{ℕ, zero, suc, ◌<◌}
 use native.Mathlib.Omega.{arith}
-use lib.Dec.{eqb}
 use lib.ListN.{length, get_or, length-append, get_or-append}
-use borrow.Author.Tests.{eqb-true, eq-eqb, not-true}
+use borrow.Author.Tests.{eq-eqb}
+use Rattle.std.proofs.lemmas.Bool.{and_from, or_from, or_parts, both_ways}
 use Rattle.paper.specs.Multiset.{Arrangement, has, without, minus}
 use Rattle.paper.specs.Grammar.{Grammar, StrictPartialOrder}
 use Rattle.paper.specs.Derivation.{Acceptable}
@@ -16,31 +16,6 @@ use Rattle.paper.specs.Entry.{barred, may_take}
 use Rattle.paper.proofs.Multiset.{has_count, count_has, arranged_refl, arranged_sym, arranged_trans, arranged_cons, arranged_uncons, arranged_without, arranged_append, arranged_swap}
 
 -- ## Tests
-
-or_left : (x y : Bool) → (x || y) ≡ false → x ≡ false
-or_left true y h = h
-or_left false y h = refl
-
-or_right : (x y : Bool) → (x || y) ≡ false → y ≡ false
-or_right true y h = let z : ◌≡◌ {A = ℕ} 0 1 = cc in absurd (let k : ⊥ = omega arith in k)
-or_right false y h = h
-
-neither : (x y : Bool) → x ≡ false → y ≡ false → (x || y) ≡ false
-neither x y e f = rw (e, f)
-
-pub and_left : (x y : Bool) → (x && y) ≡ true → x ≡ true
-and_left true y h = refl
-and_left false y h = h
-
-pub and_right : (x y : Bool) → (x && y) ≡ true → y ≡ true
-and_right true y h = h
-and_right false y h = let z : ◌≡◌ {A = ℕ} 0 1 = cc in absurd (let k : ⊥ = omega arith in k)
-
-both : (x y : Bool) → x ≡ true → y ≡ true → (x && y) ≡ true
-both x y e f = rw (e, f)
-
-unlike : {x : Bool} → x ≡ true → x ≡ false → ⊥
-unlike h k = let z : ◌≡◌ {A = ℕ} 0 1 = cc in omega arith
 
 -- ## What stands in a list
 
@@ -50,14 +25,10 @@ has_head a s = rw (eq-eqb a a refl)
 
 pub has_tail : (a b : ℕ) (s : List ℕ) → has a s ≡ true → has a (b ∷ s) ≡ true
 unfolding has
-has_tail a b s h = go (eqb a b)
-  where
-    go : (t : Bool) → (t || has a s) ≡ true
-    go true = refl
-    go false = h
+has_tail a b s h = grind arith
 
 pub has_place : (s : List ℕ) (k : ℕ) → k < length s → has (get_or s k 0) s ≡ true
-has_place [] k h = absurd (let z : ⊥ = omega arith in z)
+has_place [] k h = absurd (omega arith)
 has_place (a ∷ s) zero h = has_head a s
 has_place (a ∷ s) (suc k) h = has_tail (get_or s k 0) a s (has_place s k (omega arith))
 
@@ -68,17 +39,13 @@ has_arranged a {s} {t} h m = count_has a t (omega (arith, h.counts a, has_count 
 
 pub unbarred_each : (g : Grammar) (a b : ℕ) (s : List ℕ) → barred g a s ≡ false → has b s ≡ true → g.precedes b a ≡ false
 unfolding barred has
-unbarred_each g a b [] h m = let z : ◌≡◌ {A = ℕ} 0 1 = cc in absurd (let k : ⊥ = omega arith in k)
-unbarred_each g a b (c ∷ s) h m = go (eqb b c) refl (unbarred_each g a b s (or_right (g.precedes c a) (barred g a s) h))
-  where
-    go : (t : Bool) → eqb b c ≡ t → (has b s ≡ true → g.precedes b a ≡ false) → g.precedes b a ≡ false
-    go true e ih = rw (eqb-true b c e) (or_left (g.precedes c a) (barred g a s) h)
-    go false e ih = ih (rw e at m)
+unbarred_each g a b [] h m = cc
+unbarred_each g a b (c ∷ s) h m = grind (arith, unbarred_each g a b s (or_parts (g.precedes c a) (barred g a s) h).1)
 
 pub unbarred_places : (g : Grammar) (a : ℕ) (s : List ℕ) → ((k : ℕ) → k < length s → g.precedes (get_or s k 0) a ≡ false) → barred g a s ≡ false
 unfolding barred
 unbarred_places g a [] f = refl
-unbarred_places g a (b ∷ s) f = neither (g.precedes b a) (barred g a s) (f 0 (omega arith)) (unbarred_places g a s (λ k h. f (suc k) (omega arith)))
+unbarred_places g a (b ∷ s) f = or_from (g.precedes b a) (barred g a s) (f 0 (omega arith)) (unbarred_places g a s (λ k h. f (suc k) (omega arith)))
 
 pub each_unbarred : (g : Grammar) (a : ℕ) (s : List ℕ) → ((b : ℕ) → has b s ≡ true → g.precedes b a ≡ false) → barred g a s ≡ false
 each_unbarred g a s f = unbarred_places g a s (λ k h. f (get_or s k 0) (has_place s k h))
@@ -93,16 +60,16 @@ unbarred_nil g a = refl
 
 pub unbarred_cons : (g : Grammar) (a b : ℕ) (s : List ℕ) → g.precedes b a ≡ false → barred g a s ≡ false → barred g a (b ∷ s) ≡ false
 unfolding barred
-unbarred_cons g a b s = neither (g.precedes b a) (barred g a s)
+unbarred_cons g a b s = or_from (g.precedes b a) (barred g a s)
 
 pub unbarred_tail : (g : Grammar) (a b : ℕ) (s : List ℕ) → barred g a (b ∷ s) ≡ false → barred g a s ≡ false
 unfolding barred
-unbarred_tail g a b s = or_right (g.precedes b a) (barred g a s)
+unbarred_tail g a b s h = (or_parts (g.precedes b a) (barred g a s) h).1
 
 -- ## Acceptable
 
 pub acceptable_nil : (g : Grammar) → Acceptable g []
-acceptable_nil g = record { in_order = λ i j p q. absurd (let z : ⊥ = omega arith in z) }
+acceptable_nil g = grind arith
 
 pub acceptable_head : {g : Grammar} {a : ℕ} {s : List ℕ} → Acceptable g (a ∷ s) → barred g a s ≡ false
 acceptable_head {g} {a} {s} h = unbarred_places g a s (λ k p. h.in_order 0 (suc k) (omega arith) (omega arith))
@@ -112,20 +79,10 @@ acceptable_tail h = record { in_order = λ i j p q. h.in_order (suc i) (suc j) (
 
 -- a sequence is acceptable if nothing behind its head must precede the head, and its tail is acceptable
 pub acceptable_cons : {g : Grammar} {a : ℕ} {s : List ℕ} → barred g a s ≡ false → Acceptable g s → Acceptable g (a ∷ s)
-acceptable_cons {g} {a} {s} f h = record { in_order = places }
-  where
-    places : (i j : ℕ) → i < j → j < length (a ∷ s) → g.precedes (get_or (a ∷ s) j 0) (get_or (a ∷ s) i 0) ≡ false
-    places i zero p q = absurd (let z : ⊥ = omega arith in z)
-    places zero (suc j) p q = unbarred_each g a (get_or s j 0) s f (has_place s j (omega arith))
-    places (suc i) (suc j) p q = h.in_order i j (omega arith) (omega arith)
+acceptable_cons {g} {a} {s} f h = grind (arith, unbarred_each, has_place)
 
 pub acceptable_front : {g : Grammar} (s t : List ℕ) → Acceptable g (s ++ t) → Acceptable g s
-acceptable_front {g} s t h = record { in_order = places }
-  where
-    places : (i j : ℕ) → i < j → j < length s → g.precedes (get_or s j 0) (get_or s i 0) ≡ false
-    places i j p q =
-        let q' : i < length s = omega arith in
-        rw (get_or-append s t 0 j q, get_or-append s t 0 i q') at (h.in_order i j p (omega (arith, length-append s t)))
+acceptable_front {g} s t h = grind (arith, get_or-append, length-append)
 
 pub acceptable_back : {g : Grammar} (s t : List ℕ) → Acceptable g (s ++ t) → Acceptable g t
 acceptable_back [] t h = h
@@ -162,7 +119,7 @@ inserted_front {g} o b c t h e =
     head_free = unbarred_cons g c c t (o.irreflexive c) (acceptable_head h)
 
     decide : (d : ℕ) (x : Bool) → g.precedes d b ≡ x → g.precedes d c ≡ false → x ≡ false
-    decide d true f k = absurd (unlike (o.transitive d b c f e) k)
+    decide d true f k = absurd (both_ways (g.precedes d c) k (o.transitive d b c f e))
     decide d false f k = refl
 
     free : (d : ℕ) → has d (c ∷ t) ≡ true → g.precedes d b ≡ false
@@ -180,11 +137,7 @@ inserted_behind {g} b c t h e r =
 inserted : {g : Grammar} → StrictPartialOrder g.precedes → (b : ℕ) (t : List ℕ) → Acceptable g t → Inserted g b t
 inserted {g} o b [] h =
     record { sequence = b ∷ []; arranged = arranged_refl (b ∷ []); acceptable = acceptable_cons (unbarred_nil g b) h }
-inserted {g} o b (c ∷ t) h = go (g.precedes b c) refl (inserted o b t (acceptable_tail h))
-  where
-    go : (x : Bool) → g.precedes b c ≡ x → Inserted g b t → Inserted g b (c ∷ t)
-    go true e r = inserted_front o b c t h e
-    go false e r = inserted_behind b c t h e r
+inserted {g} o b (c ∷ t) h = grind (arith, inserted_front, inserted_behind, inserted o b t (acceptable_tail h))
 
 one_more : {g : Grammar} → StrictPartialOrder g.precedes → (a : ℕ) (s : List ℕ) → (t : List ℕ) × Arrangement t s × Acceptable g t
     → (t : List ℕ) × Arrangement t (a ∷ s) × Acceptable g t
@@ -199,11 +152,11 @@ arranged_acceptable {g} o (a ∷ s) = one_more o a s (arranged_acceptable o s)
 
 pub taken_has : (g : Grammar) (a : ℕ) (s : List ℕ) → may_take g a s ≡ true → has a s ≡ true
 unfolding may_take
-taken_has g a s h = and_left (has a s) (not (barred g a s)) h
+taken_has g a s h = grind arith
 
 pub taken_unbarred : (g : Grammar) (a : ℕ) (s : List ℕ) → may_take g a s ≡ true → barred g a s ≡ false
 unfolding may_take
-taken_unbarred g a s h = not-true (barred g a s) (and_right (has a s) (not (barred g a s)) h)
+taken_unbarred g a s h = grind arith
 
 pub may_take_lem : (g : Grammar) (a : ℕ) (s : List ℕ) → has a s ≡ true → barred g a s ≡ false → may_take g a s ≡ true
 unfolding may_take
@@ -237,18 +190,18 @@ may_take_all g (a ∷ s) rest = may_take g a rest && may_take_all g s (without a
 
 pub all_taken_head : (g : Grammar) (a : ℕ) (s rest : List ℕ) → may_take_all g (a ∷ s) rest ≡ true → may_take g a rest ≡ true
 unfolding may_take_all
-all_taken_head g a s rest = and_left (may_take g a rest) (may_take_all g s (without a rest))
+all_taken_head g a s rest = grind arith
 
 pub all_taken_tail : (g : Grammar) (a : ℕ) (s rest : List ℕ) → may_take_all g (a ∷ s) rest ≡ true → may_take_all g s (without a rest) ≡ true
 unfolding may_take_all
-all_taken_tail g a s rest = and_right (may_take g a rest) (may_take_all g s (without a rest))
+all_taken_tail g a s rest = grind arith
 
 -- the front of an acceptable arrangement of the rest may be taken in turn
 pub front_taken : {g : Grammar} → StrictPartialOrder g.precedes → (s t : List ℕ) {rest : List ℕ} → Arrangement (s ++ t) rest → Acceptable g (s ++ t) → may_take_all g s rest ≡ true
 unfolding may_take_all
 front_taken o [] t k h = refl
 front_taken {g} o (a ∷ s) t {rest} k h =
-    both (may_take g a rest) (may_take_all g s (without a rest)) (head_taken o k h) (front_taken o s t (arranged_left k) (acceptable_tail h))
+    and_from (may_take g a rest) (may_take_all g s (without a rest)) (head_taken o k h) (front_taken o s t (arranged_left k) (acceptable_tail h))
 
 -- what follows the front is an arrangement of what is then left
 pub arranged_minus : (s t : List ℕ) {rest : List ℕ} → Arrangement (s ++ t) rest → Arrangement t (minus rest s)

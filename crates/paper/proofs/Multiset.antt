@@ -31,45 +31,32 @@ pub arranged_refl : (s : List ℕ) → Arrangement s s
 arranged_refl s = record { counts = λ a. refl }
 
 pub arranged_sym : {s t : List ℕ} → Arrangement s t → Arrangement t s
-arranged_sym h = record { counts = λ a. sym (h.counts a) }
+arranged_sym h = omega arith
 
 pub arranged_trans : {s t u : List ℕ} → Arrangement s t → Arrangement t u → Arrangement s u
-arranged_trans h k = record { counts = λ a. h.counts a ∙ k.counts a }
+arranged_trans h k = omega arith
 
 pub arranged_append : {s t u v : List ℕ} → Arrangement s t → Arrangement u v → Arrangement (s ++ u) (t ++ v)
-arranged_append {s} {t} {u} {v} h k =
-    record { counts = λ a. count_append a s u ∙ (ap (◌+ count a u) (h.counts a) ∙ (ap (count a t +◌) (k.counts a) ∙ sym (count_append a t v))) }
+arranged_append {s} {t} {u} {v} h k = grind (arith, count_append)
 
 -- the order of two parts does not matter
 pub arranged_swap : (s t : List ℕ) → Arrangement (s ++ t) (t ++ s)
-arranged_swap s t = record { counts = λ a. omega (arith, count_append a s t, count_append a t s) }
+arranged_swap s t = grind (arith, count_append)
 
 pub has_count : (a : ℕ) (s : List ℕ) → has a s ≡ true → 1 ≤ count a s
 unfolding has count
-has_count a [] h = let z : ◌≡◌ {A = ℕ} 0 1 = cc in omega arith
-has_count a (b ∷ s) h = go (eqb a b) refl (has_count a s)
-  where
-    go : (t : Bool) → eqb a b ≡ t → (has a s ≡ true → 1 ≤ count a s) → 1 ≤ count a (b ∷ s)
-    go true e ih = rw e (omega arith)
-    go false e ih = rw e (omega (arith, ih (rw e at h)))
+has_count a [] h = cc
+has_count a (b ∷ s) h = grind (arith, has_count a s)
 
 pub count_has : (a : ℕ) (s : List ℕ) → 1 ≤ count a s → has a s ≡ true
 unfolding has count
-count_has a [] h = absurd (let z : ⊥ = omega arith in z)
-count_has a (b ∷ s) h = go (eqb a b) refl (count_has a s)
-  where
-    go : (t : Bool) → eqb a b ≡ t → (1 ≤ count a s → has a s ≡ true) → has a (b ∷ s) ≡ true
-    go true e ih = rw e
-    go false e ih = rw e (ih (let k : 1 ≤ bit false + count a s = rw e at h in omega arith))
+count_has a [] h = absurd (omega arith)
+count_has a (b ∷ s) h = grind (arith, count_has a s)
 
 pub count_without : (a b : ℕ) (s : List ℕ) → has a s ≡ true → count b (without a s) + bit (eqb b a) ≡ count b s
 unfolding has count without
-count_without a b [] h = let z : ◌≡◌ {A = ℕ} 0 1 = cc in omega arith
-count_without a b (c ∷ s) h = go (eqb a c) refl (count_without a b s)
-  where
-    go : (t : Bool) → eqb a c ≡ t → (has a s ≡ true → count b (without a s) + bit (eqb b a) ≡ count b s) → count b (without a (c ∷ s)) + bit (eqb b a) ≡ count b (c ∷ s)
-    go true e ih = rw e (let z : a ≡ c = eqb-true a c e in rw z (omega arith))
-    go false e ih = rw e (omega (arith, ih (rw e at h)))
+count_without a b [] h = cc
+count_without a b (c ∷ s) h = grind (arith, count_without a b s)
 
 pub minus_append : (m s t : List ℕ) → minus m (s ++ t) ≡ minus (minus m s) t
 unfolding minus
@@ -82,7 +69,7 @@ minus_snoc m s a = minus_append m s (a ∷ [])
 
 pub has_mem : (a : ℕ) (s : List ℕ) → has a s ≡ true → Memᴰ a s
 unfolding has
-has_mem a [] h = absurd (let z : ◌≡◌ {A = ℕ} 0 1 = cc in let k : ⊥ = omega arith in k)
+has_mem a [] h = cc
 has_mem a (b ∷ s) h = go (eqb a b) refl (has_mem a s)
   where
     go : (t : Bool) → eqb a b ≡ t → (has a s ≡ true → Memᴰ a s) → Memᴰ a (b ∷ s)
@@ -97,29 +84,25 @@ mem_has {a} (Memᴰ.tail {x = x} {xs = s} m) = rw (mem_has m) (or-true (eqb a x)
 pub arranged_nil : (s : List ℕ) → Arrangement s [] → s ≡ []
 unfolding count
 arranged_nil [] h = refl
-arranged_nil (a ∷ s) h = let z = h.counts a in absurd (let k : ⊥ = omega (arith, count_self a s) in k)
+arranged_nil (a ∷ s) h = let z = h.counts a in absurd (omega (arith, count_self a s))
 
 pub arranged_cons : (a : ℕ) {s t : List ℕ} → Arrangement s t → Arrangement (a ∷ s) (a ∷ t)
 unfolding count
-arranged_cons a {s} {t} h = record { counts = λ b. ap (bit (eqb b a) +◌) (h.counts b) }
+arranged_cons a {s} {t} h = grind arith
 
 -- taking one away and putting it in front is an arrangement
 pub arranged_without : (a : ℕ) (s : List ℕ) → has a s ≡ true → Arrangement (a ∷ without a s) s
 unfolding count
-arranged_without a s h = record { counts = λ b. omega (arith, count_without a b s h) }
+arranged_without a s h = grind (arith, count_without)
 
 pub length_without : (a : ℕ) (s : List ℕ) → has a s ≡ true → suc (length (without a s)) ≡ length s
 unfolding has without
-length_without a [] h = let z : ◌≡◌ {A = ℕ} 0 1 = cc in omega arith
-length_without a (b ∷ s) h = go (eqb a b) refl (length_without a s)
-  where
-    go : (t : Bool) → eqb a b ≡ t → (has a s ≡ true → suc (length (without a s)) ≡ length s) → suc (length (without a (b ∷ s))) ≡ length (b ∷ s)
-    go true e ih = rw e
-    go false e ih = rw e (ap suc (ih (rw e at h)))
+length_without a [] h = cc
+length_without a (b ∷ s) h = grind (arith, length_without a s)
 
 pub arranged_uncons : (a : ℕ) (s t : List ℕ) → Arrangement (a ∷ s) (a ∷ t) → Arrangement s t
 unfolding count
-arranged_uncons a s t h = record { counts = λ b. let e = h.counts b in omega arith }
+arranged_uncons a s t h = grind arith
 
 -- equal counts, equal lengths
 pub arranged_length : (s t : List ℕ) → Arrangement s t → length s ≡ length t

@@ -8,52 +8,40 @@ use Prim.Native.Nat.{ℕ, zero, suc, ◌+◌, ◌*◌, ◌≤◌, ◌<◌}
 use native.Mathlib.Omega.{arith}
 use lib.Dec.{eqb, leb, ltb}
 use lib.ListN.{length, get_or, length-map}
-use borrow.Author.Tests.{eqb-true, eqb-false, eq-eqb, ne_eqb, leb-true, le-leb, ltb-true, lt-ltb, not-true}
+use borrow.Author.Tests.{eq-eqb}
 use Rattle.paper.specs.Multiset.{StrictlyAscending}
 use Rattle.paper.specs.Grammar.{StrictPartialOrder}
 use Rattle.paper.specs.Image.{byte, Pair, pairs_of, pair_fault, paired, chained, closing_fault}
 use Rattle.paper.specs.Written.{pair_key}
-use Rattle.paper.proofs.Records.{goes_on, spot_on, spot_here}
 
 -- One step of the search for a fault: on past a pair that is right, or no further.
 
 pub pair_on : (symbols k least a b : ℕ) (s : List ℕ) → a < symbols → b < symbols → least ≤ a * 256 + b
     → pair_fault symbols k least (a ∷ b ∷ s) ≡ pair_fault symbols (suc k) (suc (a * 256 + b)) s
 unfolding pair_fault
-pair_on symbols k least a b s l m h =
-    spot_on (ltb a symbols && (ltb b symbols && leb least (a * 256 + b))) k (pair_fault symbols (suc k) (suc (a * 256 + b)) s)
-    (simp and-eq-true_iff (lt-ltb a symbols l, (lt-ltb b symbols m, le-leb least (a * 256 + b) h)))
+pair_on symbols k least a b s l m h = grind arith
 
 pub pair_stop : (symbols k least a b : ℕ) (s : List ℕ) → (ltb a symbols && (ltb b symbols && leb least (a * 256 + b))) ≡ false
     → pair_fault symbols k least (a ∷ b ∷ s) ≡ Some k
 unfolding pair_fault
-pair_stop symbols k least a b s wrong =
-    spot_here (ltb a symbols && (ltb b symbols && leb least (a * 256 + b))) k (pair_fault symbols (suc k) (suc (a * 256 + b)) s) wrong
+pair_stop symbols k least a b s wrong = cc
 
 pub closing_on : (pairs : List Pair) (k : ℕ) (p : Pair) (more : List Pair) → (p.earlier ≡ p.later → ⊥) → chained pairs p.earlier p.later pairs ≡ true
     → closing_fault pairs k (p ∷ more) ≡ closing_fault pairs (suc k) more
 unfolding closing_fault
-closing_on pairs k p more ne h =
-    spot_on (not (eqb p.earlier p.later) && chained pairs p.earlier p.later pairs) k (closing_fault pairs (suc k) more)
-    (rw (ne_eqb p.earlier p.later ne, h))
+closing_on pairs k p more ne h = grind arith
 
 pub closing_stop : (pairs : List Pair) (k : ℕ) (p : Pair) (more : List Pair) → (not (eqb p.earlier p.later) && chained pairs p.earlier p.later pairs) ≡ false
     → closing_fault pairs k (p ∷ more) ≡ Some k
 unfolding closing_fault
-closing_stop pairs k p more wrong =
-    spot_here (not (eqb p.earlier p.later) && chained pairs p.earlier p.later pairs) k (closing_fault pairs (suc k) more) wrong
+closing_stop pairs k p more wrong = cc
 
 -- The closing of the order.
 
 -- a pair is written first or among the others
 pub written_cases : {P : Type 0} (p : Pair) (more : List Pair) (a b : ℕ) → paired (p ∷ more) a b ≡ true → (p.earlier ≡ a → p.later ≡ b → P) → (paired more a b ≡ true → P) → P
 unfolding paired
-written_cases {P} p more a b h here there = go (eqb p.earlier a) refl (eqb p.later b) refl
-  where
-    go : (x : Bool) → eqb p.earlier a ≡ x → (y : Bool) → eqb p.later b ≡ y → P
-    go true e true f = here (eqb-true p.earlier a e) (eqb-true p.later b f)
-    go true e false f = there (rw (e, f) at h)
-    go false e y f = there (rw e at h)
+written_cases {P} p more a b h here there = grind arith
 
 -- What a sound closing says of each pair.
 record Closed (pairs : List Pair) (a b : ℕ) : Type 0 where
@@ -63,17 +51,14 @@ record Closed (pairs : List Pair) (a b : ℕ) : Type 0 where
 closing_goes_on : (pairs : List Pair) (k : ℕ) (p : Pair) (more : List Pair) → closing_fault pairs k (p ∷ more) ≡ None
     → Closed pairs p.earlier p.later × (closing_fault pairs (suc k) more ≡ None)
 unfolding closing_fault
-closing_goes_on pairs k p more h =
-    let e = goes_on (not (eqb p.earlier p.later) && chained pairs p.earlier p.later pairs) k (closing_fault pairs (suc k) more) h in
-    let b = (and-eq-true_iff (not (eqb p.earlier p.later)) (chained pairs p.earlier p.later pairs)).0 e.0 in
-    (record { apart = eqb-false p.earlier p.later (not-true (eqb p.earlier p.later) b.0); chains = b.1 }, e.1)
+closing_goes_on pairs k p more h = grind arith
 
 closed_at : (pairs : List Pair) (a b c d : ℕ) → c ≡ a → d ≡ b → Closed pairs c d → Closed pairs a b
 closed_at pairs a b c d e f h = rw (← e, ← f) h
 
 closed_each : (pairs : List Pair) (k : ℕ) (more : List Pair) → closing_fault pairs k more ≡ None → (a b : ℕ) → paired more a b ≡ true → Closed pairs a b
 unfolding paired
-closed_each pairs k [] h a b w = absurd (let z : ◌≡◌ {A = ℕ} 0 1 = cc in let l : ⊥ = omega arith in l)
+closed_each pairs k [] h a b w = cc
 closed_each pairs k (p ∷ more) h a b w =
     let e = closing_goes_on pairs k p more h in
     written_cases p more a b w (λ x y. closed_at pairs a b p.earlier p.later x y e.0) (closed_each pairs (suc k) more e.1 a b)
@@ -81,7 +66,7 @@ closed_each pairs k (p ∷ more) h a b w =
 -- the closing pair of a chain is written
 closing : (pairs : List Pair) (a b : ℕ) (more : List Pair) → chained pairs a b more ≡ true → (c : ℕ) → paired more b c ≡ true → paired pairs a c ≡ true
 unfolding paired chained
-closing pairs a b [] h c w = absurd (let z : ◌≡◌ {A = ℕ} 0 1 = cc in let l : ⊥ = omega arith in l)
+closing pairs a b [] h c w = cc
 closing pairs a b (q ∷ more) h c w = written_cases q more b c w here (closing pairs a b more t.1 c)
   where
     t : ((not (eqb q.earlier b) || paired pairs a q.later) ≡ true) × (chained pairs a b more ≡ true)
@@ -106,16 +91,13 @@ closed_order pairs h =
 
 pair_further : (a b : ℕ) (s : List ℕ) (k : ℕ)
     → ◌≡◌ {A = Pair} (record { earlier = byte s (2 * k); later = byte s (2 * k + 1) }) (record { earlier = byte (a ∷ b ∷ s) (2 * suc k); later = byte (a ∷ b ∷ s) (2 * suc k + 1) })
-pair_further a b s k =
-    let e : 2 * suc k ≡ suc (suc (2 * k)) = omega arith in
-    let f : suc (suc (2 * k)) + 1 ≡ suc (suc (2 * k + 1)) = omega arith in
-    rw (e, f)
+pair_further a b s k = grind arith
 
 -- pair k is bytes 2k and 2k+1
 pub pair_at : (s : List ℕ) (k : ℕ) (none : Pair) → k < length (pairs_of s) → get_or (pairs_of s) k none ≡ record { earlier = byte s (2 * k); later = byte s (2 * k + 1) }
 unfolding pairs_of
-pair_at [] k none l = absurd (let z : ⊥ = omega arith in z)
-pair_at (a ∷ []) k none l = absurd (let z : ⊥ = omega arith in z)
+pair_at [] k none l = absurd (omega arith)
+pair_at (a ∷ []) k none l = absurd (omega arith)
 pair_at (a ∷ b ∷ s) zero none l = refl
 pair_at (a ∷ b ∷ s) (suc k) none l = pair_at s k none (omega arith) ∙ pair_further a b s k
 
@@ -129,21 +111,11 @@ pub record RightPairs (symbols least : ℕ) (s : List ℕ) : Type 0 where
 pair_goes_on : (symbols k least a b : ℕ) (s : List ℕ) → pair_fault symbols k least (a ∷ b ∷ s) ≡ None
     → (a < symbols) × (b < symbols) × (least ≤ a * 256 + b) × (pair_fault symbols (suc k) (suc (a * 256 + b)) s ≡ None)
 unfolding pair_fault
-pair_goes_on symbols k least a b s h =
-    let e = goes_on (ltb a symbols && (ltb b symbols && leb least (a * 256 + b))) k (pair_fault symbols (suc k) (suc (a * 256 + b)) s) h in
-    let t = (and-eq-true_iff (ltb a symbols) (ltb b symbols && leb least (a * 256 + b))).0 e.0 in
-    let u = (and-eq-true_iff (ltb b symbols) (leb least (a * 256 + b))).0 t.1 in
-    (ltb-true a symbols t.0, ltb-true b symbols u.0, leb-true least (a * 256 + b) u.1, e.1)
+pair_goes_on symbols k least a b s h = grind arith
 
 pairs_none : (symbols least : ℕ) → RightPairs symbols least []
 unfolding pairs_of paired
-pairs_none symbols least =
-    record {
-      size = refl;
-      below = λ a b w. absurd (let z : ◌≡◌ {A = ℕ} 0 1 = cc in let l : ⊥ = omega arith in l);
-      least_is = λ k l. absurd (let z : ⊥ = omega arith in z);
-      ascending = record { ascend = λ i j l m. absurd (let z : ⊥ = omega arith in z) };
-    }
+pairs_none symbols least = grind arith
 
 pairs_step : (symbols least a b : ℕ) (s : List ℕ) → a < symbols → b < symbols → least ≤ a * 256 + b → RightPairs symbols (suc (a * 256 + b)) s
     → RightPairs symbols least (a ∷ b ∷ s)
@@ -161,7 +133,7 @@ pairs_step symbols least a b s p q f ih =
     from (suc k) l = omega (arith, ih.least_is k (omega arith))
 
     up : (i j : ℕ) → i < j → j < length (map pair_key (pairs_of (a ∷ b ∷ s))) → get_or (map pair_key (pairs_of (a ∷ b ∷ s))) i 0 < get_or (map pair_key (pairs_of (a ∷ b ∷ s))) j 0
-    up i zero l m = absurd (let z : ⊥ = omega arith in z)
+    up i zero l m = absurd (omega arith)
     up zero (suc j) l m = ih.least_is j (omega (arith, length-map (pairs_of s) pair_key))
     up (suc i) (suc j) l m = ih.ascending.ascend i j (omega arith) (omega arith)
 
@@ -169,7 +141,7 @@ pairs_step symbols least a b s p q f ih =
 pub pairs_right : (symbols k least : ℕ) (s : List ℕ) → pair_fault symbols k least s ≡ None → RightPairs symbols least s
 unfolding pair_fault
 pairs_right symbols k least [] h = pairs_none symbols least
-pairs_right symbols k least (a ∷ []) h = absurd (let z : ◌≡◌ {A = ℕ} 0 1 = cc in let l : ⊥ = omega arith in l)
+pairs_right symbols k least (a ∷ []) h = cc
 pairs_right symbols k least (a ∷ b ∷ s) h =
     let e = pair_goes_on symbols k least a b s h in
     pairs_step symbols least a b s e.0 e.1 e.2 (pairs_right symbols (suc k) (suc (a * 256 + b)) s e.3)
@@ -184,7 +156,7 @@ pairs_left : (symbols k c d : ℕ) (s : List ℕ) → symbols ≤ 64 → c < sym
     → length (pairs_of s) + (c * 64 + d) < 4096
 unfolding pairs_of pair_fault
 pairs_left symbols k c d [] few l m h = omega arith
-pairs_left symbols k c d (a ∷ []) few l m h = absurd (let z : ◌≡◌ {A = ℕ} 0 1 = cc in let l : ⊥ = omega arith in l)
+pairs_left symbols k c d (a ∷ []) few l m h = cc
 pairs_left symbols k c d (a ∷ b ∷ s) few l m h =
     let e = pair_goes_on symbols k (suc (c * 256 + d)) a b s h in
     omega (arith, ranks_ascend a b c d (omega arith) (omega arith) e.2, pairs_left symbols (suc k) a b s few e.0 e.1 e.3)

@@ -1,16 +1,15 @@
 -- Laws of the rules body: the record of rule h, what a sound body says of it, and that no two records are equal.
 -- Assumes nothing.
 use mathlib.Core.Path.{◌≡◌, refl, sym, ◌∙◌, ap}
-use mathlib.Core.Bool.{Bool, true, false, ◌&&◌, ◌||◌, and-eq-true_iff}
+use mathlib.Core.Bool.{Bool, true, false, ◌&&◌, and-eq-true_iff}
 use Rattle.std.specs.Prelude.{Option, Some, None}
 use mathlib.Core.List.{List, [], ◌∷◌}
-use mathlib.Core.Logic.{◌⊎◌, inl, inr}
 use Prim.Native.Nat.{ℕ, zero, suc, ◌+◌, ◌-◌, ◌*◌, ◌≤◌, ◌<◌}
 use native.Mathlib.Omega.{arith}
-use lib.Dec.{eqb, leb, ltb}
+use lib.Dec.{eqb, leb}
 use lib.ListN.{length, get_or, take, drop, length-drop}
 use lib.Seq.{drop-drop, take-add, length-take-le}
-use borrow.Author.Tests.{eqb-true, eqb-false, eq-eqb, leb-true, ltb-true, lt-ltb}
+use borrow.Author.Tests.{eqb-true, leb-true, ltb-true}
 use Rattle.paper.specs.Multiset.{Ascending}
 use Rattle.paper.specs.Grammar.{Rule}
 use Rattle.paper.specs.Image.{byte, all_below, ascends, record_before, record_size, record_of, rule_of, record_right, record_fault, rules_fault, rules_of}
@@ -20,15 +19,15 @@ use Rattle.paper.specs.Written.{rule_bytes}
 -- where nothing is at fault, the test holds and the rest is sound
 pub goes_on : (t : Bool) (k : ℕ) (next : Option ℕ) → elim t as (λ x. Option ℕ) [ true ↦ next | false ↦ Some k ] ≡ None → (t ≡ true) × (next ≡ None)
 goes_on true k next h = (refl, h)
-goes_on false k next h = absurd (let z : ◌≡◌ {A = ℕ} 0 1 = cc in let l : ⊥ = omega arith in l)
+goes_on false k next h = cc
 
 -- where the test holds the rest decides, and else the fault is here
 pub spot_on : (t : Bool) (k : ℕ) (next : Option ℕ) → t ≡ true → elim t as (λ x. Option ℕ) [ true ↦ next | false ↦ Some k ] ≡ next
 spot_on true k next e = refl
-spot_on false k next e = absurd (let z : ◌≡◌ {A = ℕ} 0 1 = cc in let l : ⊥ = omega arith in l)
+spot_on false k next e = cc
 
 pub spot_here : (t : Bool) (k : ℕ) (next : Option ℕ) → t ≡ false → elim t as (λ x. Option ℕ) [ true ↦ next | false ↦ Some k ] ≡ Some k
-spot_here true k next e = absurd (let z : ◌≡◌ {A = ℕ} 0 1 = cc in let l : ⊥ = omega arith in l)
+spot_here true k next e = cc
 spot_here false k next e = refl
 
 -- One step of the search for a fault: on past a record that is right and in order, or no further.
@@ -56,7 +55,7 @@ rules_count (suc more) r = ap suc (rules_count more (drop (record_size r) r))
 -- rule h is the one that record h means
 pub rules_at : (more h : ℕ) (r : List ℕ) (none : Rule) → h < more → get_or (rules_of more r) h none ≡ rule_of (record_at h r)
 unfolding rules_of record_at
-rules_at zero h r none l = absurd (let z : ⊥ = omega arith in z)
+rules_at zero h r none l = absurd (omega arith)
 rules_at (suc more) zero r none l = refl
 rules_at (suc more) (suc h) r none l = rules_at more h (drop (record_size r) r) none (omega arith)
 
@@ -82,22 +81,22 @@ place_after (suc h) r = omega (arith, place_after h (drop (record_size r) r))
 
 pub ascends_from : (least : ℕ) (s : List ℕ) → ascends least s ≡ true → (k : ℕ) → k < length s → least ≤ get_or s k 0
 unfolding ascends
-ascends_from least [] h k l = absurd (let z : ⊥ = omega arith in z)
-ascends_from least (a ∷ s) h zero l = let b = simp and-eq-true_iff at h in leb-true least a b.0
+ascends_from least [] h k l = absurd (omega arith)
+ascends_from least (a ∷ s) h zero l = grind arith
 ascends_from least (a ∷ s) h (suc k) l =
     let b = simp and-eq-true_iff at h in omega (arith, leb-true least a b.0, ascends_from a s b.1 k (omega arith))
 
 ascends_all : (least : ℕ) (s : List ℕ) → ascends least s ≡ true → (i j : ℕ) → i < j → j < length s → get_or s i 0 ≤ get_or s j 0
 unfolding ascends
-ascends_all least [] h i j l m = absurd (let z : ⊥ = omega arith in z)
-ascends_all least (a ∷ s) h i zero l m = absurd (let z : ⊥ = omega arith in z)
+ascends_all least [] h i j l m = absurd (omega arith)
+ascends_all least (a ∷ s) h i zero l m = absurd (omega arith)
 ascends_all least (a ∷ s) h zero (suc j) l m = let b = simp and-eq-true_iff at h in ascends_from a s b.1 j (omega arith)
 ascends_all least (a ∷ s) h (suc i) (suc j) l m = let b = simp and-eq-true_iff at h in ascends_all a s b.1 i j (omega arith) (omega arith)
 
 pub all_below_lem : (limit : ℕ) (s : List ℕ) → all_below limit s ≡ true → (k : ℕ) → k < length s → get_or s k 0 < limit
 unfolding all_below
-all_below_lem limit [] h k l = absurd (let z : ⊥ = omega arith in z)
-all_below_lem limit (a ∷ s) h zero l = let b = simp and-eq-true_iff at h in ltb-true a limit b.0
+all_below_lem limit [] h k l = absurd (omega arith)
+all_below_lem limit (a ∷ s) h zero l = grind arith
 all_below_lem limit (a ∷ s) h (suc k) l = let b = simp and-eq-true_iff at h in all_below_lem limit s b.1 k (omega arith)
 
 -- a rule has as many members as its record says
@@ -137,60 +136,28 @@ record_right_lem terminals symbols r h =
 
 -- a whole record is the bytes of its rule
 pub record_bytes : (r : List ℕ) → record_size r ≤ length r → record_of r ≡ rule_bytes (rule_of r)
-record_bytes [] h = absurd (let z : ⊥ = omega arith in z)
-record_bytes (a ∷ []) h = absurd (let z : ⊥ = omega arith in z)
+record_bytes [] h = absurd (omega arith)
+record_bytes (a ∷ []) h = absurd (omega arith)
 record_bytes (a ∷ b ∷ s) h =
     let e : length (take b s) ≡ b = members_count (a ∷ b ∷ s) h in
     take-add 2 b (a ∷ b ∷ s) ∙ ap {B = List ℕ} (λ n. a ∷ n ∷ take b s) (sym e)
 
 -- The order of records.
 
-before_cases : (a b : ℕ) (s t : List ℕ) → record_before (a ∷ s) (b ∷ t) ≡ true → (a < b) ⊎ ((a ≡ b) × (record_before s t ≡ true))
-unfolding record_before
-before_cases a b s t h = go (ltb a b) refl (eqb a b) refl
-  where
-    go : (x : Bool) → ltb a b ≡ x → (y : Bool) → eqb a b ≡ y → (a < b) ⊎ ((a ≡ b) × (record_before s t ≡ true))
-    go true p y q = inl (ltb-true a b p)
-    go false p true q = inr (eqb-true a b q, rw (p, q) at h)
-    go false p false q = absurd (let z : false ≡ true = rw (p, q) at h in let y : ◌≡◌ {A = ℕ} 0 1 = cc in let l : ⊥ = omega arith in l)
-
-before_less : (a b : ℕ) (s t : List ℕ) → a < b → record_before (a ∷ s) (b ∷ t) ≡ true
-unfolding record_before
-before_less a b s t l = rw (lt-ltb a b l)
-
-before_same : (a b : ℕ) (s t : List ℕ) → a ≡ b → record_before s t ≡ true → record_before (a ∷ s) (b ∷ t) ≡ true
-unfolding record_before
-before_same a b s t e h = rw (eq-eqb a b e, h) (or_last (ltb a b))
-  where
-    or_last : (x : Bool) → (x || true) ≡ true
-    or_last true = refl
-    or_last false = refl
-
-before_step : (a b c : ℕ) (s t u : List ℕ) → (record_before s t ≡ true → record_before t u ≡ true → record_before s u ≡ true)
-    → (a < b) ⊎ ((a ≡ b) × (record_before s t ≡ true)) → (b < c) ⊎ ((b ≡ c) × (record_before t u ≡ true)) → record_before (a ∷ s) (c ∷ u) ≡ true
-before_step a b c s t u ih (inl p) (inl q) = before_less a c s u (omega arith)
-before_step a b c s t u ih (inl p) (inr q) = before_less a c s u (omega arith)
-before_step a b c s t u ih (inr p) (inl q) = before_less a c s u (omega arith)
-before_step a b c s t u ih (inr p) (inr q) = before_same a c s u (p.0 ∙ q.0) (ih p.1 q.1)
-
 before_trans : (s t u : List ℕ) → record_before s t ≡ true → record_before t u ≡ true → record_before s u ≡ true
 unfolding record_before
-before_trans [] [] u h k = absurd (let z : ◌≡◌ {A = ℕ} 0 1 = cc in let l : ⊥ = omega arith in l)
+before_trans [] [] u h k = cc
 before_trans [] (b ∷ t) [] h k = k
 before_trans [] (b ∷ t) (c ∷ u) h k = refl
-before_trans (a ∷ s) [] u h k = absurd (let z : ◌≡◌ {A = ℕ} 0 1 = cc in let l : ⊥ = omega arith in l)
+before_trans (a ∷ s) [] u h k = cc
 before_trans (a ∷ s) (b ∷ t) [] h k = k
-before_trans (a ∷ s) (b ∷ t) (c ∷ u) h k = before_step a b c s t u (before_trans s t u) (before_cases a b s t h) (before_cases b c t u k)
+before_trans (a ∷ s) (b ∷ t) (c ∷ u) h k = grind (arith, before_trans s t u)
 
 -- no record is before itself
 before_self : (s : List ℕ) → record_before s s ≡ true → ⊥
 unfolding record_before
-before_self [] h = let z : ◌≡◌ {A = ℕ} 0 1 = cc in let l : ⊥ = omega arith in l
-before_self (a ∷ s) h = go (before_cases a a s s h) (before_self s)
-  where
-    go : (a < a) ⊎ ((a ≡ a) × (record_before s s ≡ true)) → (record_before s s ≡ true → ⊥) → ⊥
-    go (inl l) ih = omega arith
-    go (inr e) ih = ih e.1
+before_self [] h = cc
+before_self (a ∷ s) h = grind (arith, before_self s)
 
 -- A sound rules body.
 
@@ -203,17 +170,7 @@ pub record RightRecords (terminals symbols more : ℕ) (last r : List ℕ) : Typ
 
 records_end : (terminals symbols : ℕ) (last r : List ℕ) (k : ℕ) → record_fault terminals symbols 0 k last r ≡ None → RightRecords terminals symbols 0 last r
 unfolding record_fault record_at
-records_end terminals symbols last r k h =
-    record {
-      right = λ n l. absurd (let z : ⊥ = omega arith in z);
-      first = λ l. absurd (let z : ⊥ = omega arith in z);
-      next = λ n l. absurd (let z : ⊥ = omega arith in z);
-      filled = go (eqb (length r) 0) refl;
-    }
-  where
-    go : (t : Bool) → eqb (length r) 0 ≡ t → length r ≡ 0
-    go true e = eqb-true (length r) 0 e
-    go false e = absurd (let y : Some k ≡ None = rw e at h in let z : ◌≡◌ {A = ℕ} 0 1 = cc in let l : ⊥ = omega arith in l)
+records_end terminals symbols last r k h = grind arith
 
 records_step : (terminals symbols more : ℕ) (last r : List ℕ) → record_right terminals symbols r ≡ true → record_before last (record_of r) ≡ true
     → RightRecords terminals symbols more (record_of r) (drop (record_size r) r) → RightRecords terminals symbols (suc more) last r
@@ -243,8 +200,7 @@ records_tail terminals symbols more last r run =
 record_goes_on : (terminals symbols more k : ℕ) (last r : List ℕ) → record_fault terminals symbols (suc more) k last r ≡ None
     → ((record_right terminals symbols r && record_before last (record_of r)) ≡ true) × (record_fault terminals symbols more (suc k) (record_of r) (drop (record_size r) r) ≡ None)
 unfolding record_fault
-record_goes_on terminals symbols more k last r h =
-    goes_on (record_right terminals symbols r && record_before last (record_of r)) k (record_fault terminals symbols more (suc k) (record_of r) (drop (record_size r) r)) h
+record_goes_on terminals symbols more k last r h = grind arith
 
 pub records_right : (terminals symbols more k : ℕ) (last r : List ℕ) → record_fault terminals symbols more k last r ≡ None
     → RightRecords terminals symbols more last r
@@ -304,15 +260,13 @@ module _ {terminals symbols more : ℕ} {last r : List ℕ} (run : RightRecords 
 
   -- an earlier record is before a later one
   pub record_before_lem : (h k : ℕ) → h < k → k < more → record_before (record_of (record_at h r)) (record_of (record_at k r)) ≡ true
-  record_before_lem h zero l m = absurd (let z : ⊥ = omega arith in z)
+  record_before_lem h zero l m = absurd (omega arith)
   record_before_lem h (suc k) l m = go (eqb h k) refl (record_before_lem h k)
     where
       go : (t : Bool) → eqb h k ≡ t → (h < k → k < more → record_before (record_of (record_at h r)) (record_of (record_at k r)) ≡ true)
           → record_before (record_of (record_at h r)) (record_of (record_at (suc k) r)) ≡ true
       go true e ih = rw (eqb-true h k e) (run.next k m)
-      go false e ih =
-          let ne = eqb-false h k e in
-          before_trans (record_of (record_at h r)) (record_of (record_at k r)) (record_of (record_at (suc k) r)) (ih (omega arith) (omega arith)) (run.next k m)
+      go false e ih = grind (arith, before_trans)
 
   -- no two records mean the same rule
   pub rules_unlike : (h k : ℕ) → h < k → k < more → rule_of (record_at h r) ≡ rule_of (record_at k r) → ⊥

@@ -55,12 +55,12 @@ module _ {g : Grammar} {row : List ℕ} where
 
   start_looked_for : (u : List ℕ) (a : ℕ) (v : List ℕ) (i : ℕ) → g.start ∷ [] ≡ u ++ (a ∷ v) → Parts g row u 0 i → Sought g row a i
   start_looked_for [] a v i e (done h) = let z : a ≡ g.start = cc in rw z top
-  start_looked_for (c ∷ []) a v i e p = absurd (let z : ◌≡◌ {A = ℕ} 0 1 = cc in let k : ⊥ = omega arith in k)
-  start_looked_for (c ∷ d ∷ u) a v i e p = absurd (let z : ◌≡◌ {A = ℕ} 0 1 = cc in let k : ⊥ = omega arith in k)
+  start_looked_for (c ∷ []) a v i e p = cc
+  start_looked_for (c ∷ d ∷ u) a v i e p = cc
 
   -- After a step a symbol stands in front of what was put in, in it, or behind it.
   looked_for_in_front : {w t u v : List ℕ} {a i : ℕ} (x : Step g w t) → Front g row w → InFirst x.before (x.sequence ++ x.behind) u a v → Parts g row u 0 i → Sought g row a i
-  looked_for_in_front {u = u} {a = a} {i = i} x f q p = f.looked_for u a (q.middle ++ (x.symbol ∷ x.behind)) i (x.whole_is ∙ rw q.first_is (simp append_assoc)) p
+  looked_for_in_front {u = u} {a = a} {i = i} x f q p = grind (arith, append_assoc)
 
   looked_for_within : {w t m v : List ℕ} {a i : ℕ} (x : Step g w t) → Front g row w → InFirst x.sequence x.behind m a v → Parts g row (x.before ++ m) 0 i → Sought g row a i
   looked_for_within {m = m} {a = a} x f q p =
@@ -96,5 +96,4 @@ module _ {g : Grammar} {row : List ℕ} where
   -- a symbol in a sequence that the start symbol derives, all before it deriving the tokens up to a place, is looked for at that place
   pub derives_sought : (a i : ℕ) (before behind : List ℕ) → i ≤ length row → Derives g (g.start ∷ []) (before ++ (a ∷ behind)) → Derives g before (take i row)
       → Sought g row a i
-  derives_sought a i before behind h d e =
-      (derives_front d (record { looked_for = start_looked_for })).looked_for before a behind i refl (derives_parts before 0 i (omega arith) h e)
+  derives_sought a i before behind h d e = grind (arith, derives_front, start_looked_for, derives_parts)

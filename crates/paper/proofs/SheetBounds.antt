@@ -1,7 +1,7 @@
 -- How many entries a sheet has at the most, and how many steps: the two bounds of document 01, "The work sheet".
 -- Assumes nothing.
 use mathlib.Core.Path.{◌≡◌, refl, sym, ◌∙◌, ap}
-use mathlib.Core.Bool.{Bool, true}
+use mathlib.Core.Bool.{true}
 use mathlib.Core.List.Memᴰ
 use mathlib.Core.List.{List, [], ◌∷◌, Memᴰ, flat_map}
 use Prim.Native.Nat.{ℕ, zero, suc, ◌+◌, ◌*◌, ◌/◌, ◌≤◌, ◌<◌}
@@ -30,19 +30,11 @@ exact_division c k t x l e = div-eq_of_eq-mul_right l (ap (c *◌) (sym e) ∙ m
 -- D(n+1)(n+2)/2 is D times the sum of 1 to n+1
 entries_bound_exact : (g : Grammar) (n : ℕ) → entries_bound g n ≡ rests g * triangle (suc n)
 unfolding entries_bound
-entries_bound_exact g n =
-    let p : n + 1 ≡ suc n = omega arith in
-    let q : n + 2 ≡ suc (suc n) = omega arith in
-    rw (p, q, mul_assoc (rests g) (suc n) (suc (suc n))) (exact_division (rests g) 2 (triangle (suc n)) (suc n * suc (suc n)) (omega arith) (triangle_closed (suc n)))
+entries_bound_exact g n = grind (arith, mul_assoc, exact_division, triangle_closed)
 
 -- R·D·(n+1)(n+2)(n+3)/6 is R·D times the sum of these sums
 complete_bound_exact : (c n : ℕ) → c * (n + 1) * (n + 2) * (n + 3) / 6 ≡ c * pyramid (suc n)
-complete_bound_exact c n =
-    let p : n + 1 ≡ suc n = omega arith in
-    let q : n + 2 ≡ suc (suc n) = omega arith in
-    let r : n + 3 ≡ suc (suc (suc n)) = omega arith in
-    rw (p, q, r, mul_assoc c (suc n) (suc (suc n)), mul_assoc c (suc n * suc (suc n)) (suc (suc (suc n))))
-    (exact_division c 6 (pyramid (suc n)) (suc n * suc (suc n) * suc (suc (suc n))) (omega arith) (pyramid_closed (suc n)))
+complete_bound_exact c n = grind (arith, mul_assoc, exact_division, pyramid_closed)
 
 -- ---- start steps, at most one per rule
 
@@ -96,7 +88,7 @@ module _ {g : Grammar} {row : List ℕ} {sheet : Sheet} (is : IsSheet g row shee
 
   -- list j has at most D(j+1) entries
   list_few : (j : ℕ) → length (list_at sheet j) ≤ rests g * suc j
-  list_few j = possible_few g j (list_at sheet j) (list_distinct j) (λ e m. stands_possible ((is.exact j e).0 m))
+  list_few j = grind (arith, possible_few, list_distinct, stands_possible)
 
   -- Every list has its bound, and so the sheet has the sum of them.
   sum_lists : (f : List Entry → ℕ) (bound : ℕ → ℕ) → ((j : ℕ) → f (list_at sheet j) ≤ bound j) → sum f sheet ≤ sum_below (suc (length row)) bound
@@ -137,16 +129,11 @@ module _ {g : Grammar} {row : List ℕ} {sheet : Sheet} (is : IsSheet g row shee
   -- complete: for a finished entry of origin i, at most the D(i+1) entries of list i
   waiting_few : (f : Entry) → completions g sheet f ≤ rests g * suc f.origin
   unfolding waiting
-  waiting_few f =
-      let waits : Entry → Bool = λ e. may_take g (left g f.rule) e.rest in
-      omega (arith, length_keep waits (list_at sheet f.origin), many_le waits (list_at sheet f.origin), list_few f.origin)
+  waiting_few f = grind (arith, length_keep, many_le, list_few)
 
   -- the finished entries of list j are among the rules with an origin up to j
   finished_inside : (j : ℕ) (e : Entry) → Memᴰ e (keep finished (list_at sheet j)) → Memᴰ e (finished_below (rule_count g) (suc j))
-  finished_inside j e m =
-      let k = keep_mem finished (list_at sheet j) m in
-      let s = (is.exact j e).0 k.0 in
-      finished_below_lem e (rule_count g) (suc j) s.is_rule (omega (arith, s.origin_le)) k.1
+  finished_inside j e m = grind (arith, keep_mem, finished_below_lem)
 
   complete_list : (j : ℕ) → sum (completions g sheet) (keep finished (list_at sheet j)) ≤ rule_count g * rests g * triangle (suc j)
   unfolding triangle
@@ -174,7 +161,7 @@ module _ {g : Grammar} {row : List ℕ} {sheet : Sheet} (is : IsSheet g row shee
   -- 01: "Steps are at most R + K + K·R + R·D·(n+1)(n+2)(n+3)/6."
   pub steps_bound_lem : steps g row sheet ≤ steps_bound g (length row) (entries sheet)
   unfolding steps steps_bound
-  steps_bound_lem = omega (arith, start_few g, scan_few, predict_few, complete_few, complete_bound_exact (rule_count g * rests g) (length row))
+  steps_bound_lem = grind (arith, start_few, scan_few, predict_few, complete_few, complete_bound_exact)
 
 -- the more entries, the more steps there can be
 steps_bound_more : (g : Grammar) (n k m : ℕ) → k ≤ m → steps_bound g n k ≤ steps_bound g n m
@@ -183,4 +170,4 @@ steps_bound_more g n k m l = omega (arith, mul-le-mul_right (rule_count g) l)
 
 -- the bound on the steps for a grammar and a row length alone
 pub steps_price : {g : Grammar} {row : List ℕ} {sheet : Sheet} → IsSheet g row sheet → steps g row sheet ≤ steps_bound g (length row) (entries_bound g (length row))
-steps_price {g} {row} {sheet} is = omega (arith, steps_bound_lem is, steps_bound_more g (length row) (entries sheet) (entries_bound g (length row)) (entries_bound_lem is))
+steps_price {g} {row} {sheet} is = grind (arith, steps_bound_lem, steps_bound_more, entries_bound_lem)

@@ -8,14 +8,14 @@ use mathlib.Core.List.Memᴰ
 use mathlib.Core.List.{List, [], ◌∷◌, ◌++◌, map, Memᴰ}
 use Prim.Native.Nat.{ℕ, zero, suc, ◌+◌, ◌-◌, ◌*◌, max, ◌≤◌, ◌<◌}
 use native.Mathlib.Omega.{arith}
-use native.Mathlib.Nat.{suc-mul, mul_comm, mul-le-mul_left}
+use native.Mathlib.Nat.{mul-le-mul_left}
 use lib.Dec.{eqb, ltb}
-use lib.ListN.{length, get_or, drop, length-append, length-map}
+use lib.ListN.{length, get_or, length-append, length-map}
 use lib.Seq.{get_or-take, get_or-drop}
 use borrow.Author.Tests.{eqb-true, eqb-false, ltb-true, ltb-false}
 use Rattle.paper.specs.Grammar.{Grammar, IsGrammar}
 use Rattle.paper.specs.Price.{lines_bound}
-use Rattle.paper.specs.Lines.{line_size, line_count, line_from, line_to, line_parts, part_slots, line_symbol, Joins, LineRight, Uses, Valid}
+use Rattle.paper.specs.Lines.{line_count, line_from, line_to, part_slots, line_symbol, Joins, LineRight, Uses, Valid}
 use Rattle.paper.proofs.Lists.{Distinct, pigeonhole}
 use Rattle.paper.proofs.Lines.{earlier_first}
 
@@ -70,7 +70,7 @@ record Covers (ns slots : List ℕ) (i j : ℕ) : Type 0 where
   all : (m k : ℕ) → Memᴰ (suc m) slots → Under ns m k → line_from ns k < line_to ns k → Memᴰ (line_span ns k) spans
 
 covers_none : (ns : List ℕ) (i : ℕ) → Covers ns [] i i
-covers_none ns i = record { spans = []; few = Few.empty refl refl; all = λ m k at. absurd (Memᴰ.not-nil at) }
+covers_none ns i = grind arith
 
 covers_token : (ns : List ℕ) (i : ℕ) → Covers ns (0 ∷ []) i (suc i)
 covers_token ns i = record { spans = []; few = few_token i; all = λ m k at. absurd (no_line m at) }
@@ -108,8 +108,8 @@ record Topped (spans : List Span) (i j : ℕ) : Type 0 where
 
 -- it is among them already, or there is room for it
 topped : {spans : List Span} {i j : ℕ} → Few spans i j → Topped spans i j
-topped {spans} (Few.empty e z) = record { wider = spans; few = Few.empty e z; kept = λ x at. at; top = λ h. absurd (let z : ⊥ = omega arith in z) }
-topped {spans} (Few.full l at) = record { wider = spans; few = Few.full l at; kept = λ x at'. at'; top = λ h. at }
+topped {spans} (Few.empty e z) = grind arith
+topped {spans} (Few.full l at) = grind arith
 topped {spans} {i} {j} (Few.spare l) =
     record {
       wider = span i j ∷ spans;
@@ -120,15 +120,13 @@ topped {spans} {i} {j} (Few.spare l) =
 
 -- a number other than 0 that is read from a list stands in it
 get_or_mem : (s : List ℕ) (x m : ℕ) → get_or s x 0 ≡ suc m → Memᴰ (suc m) s
-get_or_mem [] x m e = absurd (let z : ⊥ = omega arith in z)
+get_or_mem [] x m e = absurd (omega arith)
 get_or_mem (a ∷ s) zero m e = Memᴰ.head (sym e)
 get_or_mem (a ∷ s) (suc x) m e = Memᴰ.tail (get_or_mem s x m e)
 
 -- a part of a line stands in a slot of it
 uses_slot : {ns : List ℕ} {k m : ℕ} → Uses ns k m → Memᴰ (suc m) (part_slots ns k)
-uses_slot {ns} {k} {m} u =
-    get_or_mem (part_slots ns k) u.slot m
-    (get_or-take (line_parts ns k) (drop (line_size * k + 4) ns) u.slot 0 u.is_part ∙ (get_or-drop (line_size * k + 4) ns u.slot 0 ∙ u.names))
+uses_slot {ns} {k} {m} u = grind (arith, get_or_mem, get_or-take, get_or-drop)
 
 -- a line is covered if its slots are
 covers_line : {ns : List ℕ} (k : ℕ) → Covers ns (part_slots ns k) (line_from ns k) (line_to ns k) → Covers ns (suc k ∷ []) (line_from ns k) (line_to ns k)
@@ -225,18 +223,11 @@ nodes_over first (suc more) spans = map (node (first + more)) spans ++ nodes_ove
 length_nodes_over : (first many : ℕ) (spans : List Span) → length (nodes_over first many spans) ≡ many * length spans
 unfolding nodes_over
 length_nodes_over first zero spans = omega arith
-length_nodes_over first (suc more) spans =
-    omega (
-      arith,
-      length-append (map (node (first + more)) spans) (nodes_over first more spans),
-      length-map spans (node (first + more)),
-      length_nodes_over first more spans,
-      suc-mul more (length spans),
-    )
+length_nodes_over first (suc more) spans = grind (arith, length-append, length-map, length_nodes_over first more spans)
 
 nodes_over_all : (first many a : ℕ) (spans : List Span) {x : Span} → first ≤ a → a < first + many → Memᴰ x spans → Memᴰ (node a x) (nodes_over first many spans)
 unfolding nodes_over
-nodes_over_all first zero a spans low high at = absurd (let z : ⊥ = omega arith in z)
+nodes_over_all first zero a spans low high at = absurd (omega arith)
 nodes_over_all first (suc more) a spans {x} low high at = go (eqb a (first + more)) refl (λ h. nodes_over_all first more a spans low h at)
   where
     go : (t : Bool) → eqb a (first + more) ≡ t → (a < first + more → Memᴰ (node a x) (nodes_over first more spans)) → Memᴰ (node a x) (nodes_over first (suc more) spans)
@@ -280,15 +271,7 @@ valid_spans {g} {row} {ns} valid =
 -- N times the number of spans is the bound L
 within_bound : (g : Grammar) (n k : ℕ) → k ≤ g.nonterminals * max 1 (3 * n) → k ≤ lines_bound g n
 unfolding lines_bound
-within_bound g n k h = go (eqb n 0) refl
-  where
-    go : (t : Bool) → eqb n 0 ≡ t → k ≤ lines_bound g n
-    go true e = rw e (let z : max 1 (3 * n) ≡ 1 = omega (arith, eqb-true n 0 e) in omega (arith, rw z at h))
-    go false e =
-        rw e
-        (let ne : ¬ (n ≡ 0) = eqb-false n 0 e in
-        let z : max 1 (3 * n) ≡ 3 * n = omega arith in
-        omega (arith, rw z at h, mul_comm g.nonterminals (3 * n)))
+within_bound g n k h = grind arith
 
 -- valid lines are no more than the bound L
 pub valid_bound : {g : Grammar} {row ns : List ℕ} → IsGrammar g → Valid g row ns → line_count ns ≤ lines_bound g (length row)

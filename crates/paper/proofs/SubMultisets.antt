@@ -10,10 +10,10 @@ use native.Mathlib.Omega.{arith}
 use native.Mathlib.Decide.{dec_le, ℕ_discrete}
 use lib.Dec.{eqb}
 use lib.ListN.{length, get_or}
-use borrow.Author.Tests.{eqb-true, eqb-false, eq-eqb, ne_eqb}
+use borrow.Author.Tests.{eqb-false, eq-eqb}
 use Rattle.paper.specs.Multiset.{bit, count, Arrangement, has, without, minus, keep, sub_multisets}
 use Rattle.paper.proofs.Multiset.{count_self, count_other, count_has, count_without, arranged_cons, arranged_uncons, arranged_sym, arranged_trans, arranged_without}
-use Rattle.paper.proofs.Lists.{mem_keep, keep_mem, map_mem, place_mem, Distinct, distinct_append, distinct_places, distinct_keep, distinct_map}
+use Rattle.paper.proofs.Lists.{mem_keep, keep_mem, place_mem, Distinct, distinct_append, distinct_places, distinct_keep, distinct_map}
 
 -- r is listed as a sub-multiset of s
 abbrev pub Listed : List ℕ → List ℕ → Type 0
@@ -39,10 +39,7 @@ pub record Present (a : ℕ) (s : List ℕ) (r : List ℕ) : Type 0 where
   pub r_is : r ≡ a ∷ q
 
 present_mem : {r : List ℕ} (a : ℕ) (s : List ℕ) → Memᴰ r (map (a ∷◌) (full a s)) → Present a s r
-present_mem a s m =
-    let x = map_mem (a ∷◌) (full a s) m in
-    let k = keep_mem (λ q. eqb (count a q) (count a s)) (sub_multisets s) x.1 in
-    record { q = x.0; listed = k.0; every = eqb-true (count a x.0) (count a s) k.1; r_is = x.2 }
+present_mem a s m = grind (arith, Memᴰ.of_map, keep_mem)
 
 -- how r is listed: its first member is missing, or it is there with every later one equal to it
 pub listed_cases : {r : List ℕ} (a : ℕ) (s : List ℕ) → Listed r (a ∷ s) → Listed r s ⊎ Present a s r
@@ -78,11 +75,7 @@ listed_count b {r} (a ∷ s) m = go (listed_cases a s m) (λ q n. listed_count b
 count_without_other : (a b : ℕ) (s : List ℕ) → (a ≡ b → ⊥) → count a (without b s) ≡ count a s
 unfolding count without
 count_without_other a b [] ne = refl
-count_without_other a b (c ∷ s) ne = go (eqb b c) refl (count_without_other a b s ne)
-  where
-    go : (t : Bool) → eqb b c ≡ t → count a (without b s) ≡ count a s → count a (cond t s (c ∷ without b s)) ≡ bit (eqb a c) + count a s
-    go true e ih = rw (ne_eqb a c (λ f. ne (f ∙ sym (eqb-true b c e)))) (omega arith)
-    go false e ih = omega arith
+count_without_other a b (c ∷ s) ne = grind (arith, count_without_other a b s ne)
 
 pub listed_without : (b : ℕ) {r : List ℕ} (s : List ℕ) → Listed r s → Listed (without b r) s
 unfolding without
@@ -115,8 +108,8 @@ listed_same (a ∷ s) {r} {t} m n h = go (listed_cases a s m) (listed_cases a s 
   where
     go : Listed r s ⊎ Present a s r → Listed t s ⊎ Present a s t → ((p q : List ℕ) → Listed p s → Listed q s → Arrangement p q → p ≡ q) → r ≡ t
     go (inl u) (inl v) ih = ih r t u v h
-    go (inl u) (inr y) ih = absurd (let z : ⊥ = omega (arith, listed_count a s u, h.counts a, ap (count a) y.r_is, count_self a y.q) in z)
-    go (inr x) (inl v) ih = absurd (let z : ⊥ = omega (arith, listed_count a s v, h.counts a, ap (count a) x.r_is, count_self a x.q) in z)
+    go (inl u) (inr y) ih = absurd (omega (arith, listed_count a s u, h.counts a, ap (count a) y.r_is, count_self a y.q))
+    go (inr x) (inl v) ih = absurd (omega (arith, listed_count a s v, h.counts a, ap (count a) x.r_is, count_self a x.q))
     go (inr x) (inr y) ih =
         let k : Arrangement (a ∷ x.q) (a ∷ y.q) = rw (← x.r_is, ← y.r_is) h in
         x.r_is ∙ (ap (a ∷◌) (ih x.q y.q x.listed y.listed (arranged_uncons a x.q y.q k)) ∙ sym y.r_is)
@@ -124,7 +117,7 @@ listed_same (a ∷ s) {r} {t} m n h = go (listed_cases a s m) (listed_cases a s 
 -- a list that has no symbol more often than the whole is an arrangement of one that is listed
 pub listed_exists : (s t : List ℕ) → ((b : ℕ) → count b t ≤ count b s) → (r : List ℕ) × Listed r s × Arrangement t r
 unfolding count
-listed_exists [] t h = ([], listed_all [], record { counts = λ b. let k = h b in omega arith })
+listed_exists [] t h = grind (arith, listed_all)
 listed_exists (a ∷ s) t h = go (dec_le (count a t) (count a s)) (λ u. listed_exists s u)
   where
     fewer : count a t ≤ count a s → (b : ℕ) → Dec (b ≡ a) → count b t ≤ count b s

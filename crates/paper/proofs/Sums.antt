@@ -2,12 +2,12 @@
 -- Assumes nothing.
 use mathlib.Core.Path.{◌≡◌, refl, sym, ◌∙◌, ap}
 use mathlib.Core.Logic.{◌⊎◌, inl, inr}
-use mathlib.Core.Bool.{Bool, true, false, cond}
+use mathlib.Core.Bool.{Bool, true, false}
 use mathlib.Core.List.Memᴰ
 use mathlib.Core.List.{List, [], ◌∷◌, ◌++◌, Memᴰ, map, flat_map}
 use Prim.Native.Nat.{ℕ, zero, suc, ◌+◌, ◌*◌, ◌≤◌, ◌<◌}
 use native.Mathlib.Omega.{arith}
-use native.Mathlib.Nat.{mul-zero, zero-mul, mul-suc, suc-mul, mul-add, add-mul, mul_assoc, mul_comm, mul-one}
+use native.Mathlib.Nat.{mul-zero, zero-mul, suc-mul, add-mul, mul-one}
 use lib.ListN.{length, get_or}
 use Rattle.paper.specs.Multiset.{bit, keep}
 use Rattle.paper.specs.Sheet.{sum, many, sum_below}
@@ -49,7 +49,7 @@ module _ {A : Type 0} where
   pub sum_places : (f : A → ℕ) (d : A) (s : List A) → sum f s ≡ sum_below (length s) (λ j. f (get_or s j d))
   unfolding sum sum_below
   sum_places f d [] = refl
-  sum_places f d (x ∷ s) = ap (f x +◌) (sum_places f d s) ∙ sym (sum_below_first (length s) (λ j. f (get_or (x ∷ s) j d)))
+  sum_places f d (x ∷ s) = grind (arith, sum_below_first, sum_places f d s)
 
 module _ {A B : Type 0} where
   pub sum_map : (f : B → ℕ) (h : A → B) (s : List A) → sum f (map h s) ≡ sum (λ x. f (h x)) s
@@ -60,7 +60,7 @@ module _ {A B : Type 0} where
   pub sum_flat_map : (f : B → ℕ) (h : A → List B) (s : List A) → sum f (flat_map h s) ≡ sum (λ x. sum f (h x)) s
   unfolding sum flat_map
   sum_flat_map f h [] = refl
-  sum_flat_map f h (x ∷ s) = sum_append f (h x) (flat_map h s) ∙ ap (sum f (h x) +◌) (sum_flat_map f h s)
+  sum_flat_map f h (x ∷ s) = grind (arith, sum_append, sum_flat_map f h s)
 
 -- ---- how many
 
@@ -71,11 +71,7 @@ module _ {A : Type 0} (p : A → Bool) where
   pub length_keep : (s : List A) → length (keep p s) ≡ many p s
   unfolding keep sum
   length_keep [] = refl
-  length_keep (x ∷ s) = go (p x) (length_keep s)
-    where
-      go : (b : Bool) → length (keep p s) ≡ many p s → length (cond b (x ∷ keep p s) (keep p s)) ≡ bit b + many p s
-      go true ih = omega arith
-      go false ih = omega arith
+  length_keep (x ∷ s) = grind (arith, length_keep s)
 
   -- one that passes the test is counted
   pub mem_many : {x : A} (s : List A) → Memᴰ x s → p x ≡ true → 1 ≤ many p s
@@ -90,7 +86,7 @@ module _ {A : Type 0} (p : A → Bool) where
   -- and what is counted is there
   pub many_mem : (s : List A) → 1 ≤ many p s → (x : A) × Memᴰ x s × (p x ≡ true)
   unfolding sum
-  many_mem [] h = absurd (let z : ⊥ = omega arith in z)
+  many_mem [] h = absurd (omega arith)
   many_mem (y ∷ s) h = go (p y) refl h (many_mem s)
     where
       go : (b : Bool) → p y ≡ b → 1 ≤ bit b + many p s → (1 ≤ many p s → (x : A) × Memᴰ x s × (p x ≡ true)) → (x : A) × Memᴰ x (y ∷ s) × (p x ≡ true)
@@ -107,7 +103,7 @@ sum_below_le (suc n) f w h = omega (arith, h n (omega arith), sum_below_le n f w
 pub sum_below_mul : (c n : ℕ) (f : ℕ → ℕ) → sum_below n (λ j. c * f j) ≡ c * sum_below n f
 unfolding sum_below
 sum_below_mul c zero f = omega (arith, mul-zero c)
-sum_below_mul c (suc n) f = omega (arith, sum_below_mul c n f, mul-add c (sum_below n f) (f n))
+sum_below_mul c (suc n) f = grind (arith, sum_below_mul c n f)
 
 -- 1 + 2 + .. + n
 unfoldable pub triangle : ℕ → ℕ
@@ -120,11 +116,9 @@ pyramid n = sum_below n (λ j. triangle (suc j))
 pub triangle_closed : (n : ℕ) → 2 * triangle n ≡ n * suc n
 unfolding triangle sum_below
 triangle_closed zero = omega arith
-triangle_closed (suc n) = omega (arith, triangle_closed n, suc-mul n (suc (suc n)), mul-suc n (suc n))
+triangle_closed (suc n) = grind (arith, triangle_closed n)
 
 pub pyramid_closed : (n : ℕ) → 6 * pyramid n ≡ n * suc n * suc (suc n)
 unfolding pyramid sum_below
 pyramid_closed zero = omega arith
-pyramid_closed (suc n) =
-    let p = suc n * suc (suc n) in
-    omega (arith, pyramid_closed n, triangle_closed (suc n), mul_assoc n (suc n) (suc (suc n)), mul_comm n p, mul-suc p (suc (suc n)), mul-suc p (suc n), mul-suc p n)
+pyramid_closed (suc n) = grind (arith, triangle_closed, pyramid_closed n)

@@ -1,14 +1,13 @@
 -- The sheet exists, and 000's theorem 1: a row has a top exactly if it is in the language.
 -- Assumes nothing.
-use mathlib.Core.Path.{◌≡◌, refl, sym, ◌∙◌, subst₂}
+use mathlib.Core.Path.{◌≡◌, refl, sym, subst₂}
 use mathlib.Core.Logic.{◌↔◌}
-use mathlib.Core.Bool.{true, ◌&&◌}
+use mathlib.Core.Bool.{true}
 use mathlib.Core.List.{List, [], ◌++◌, append-nil}
 use Prim.Native.Nat.{ℕ, ◌≤◌, ◌<◌}
 use native.Mathlib.Omega.{arith}
-use lib.Dec.{eqb}
 use lib.ListN.{length}
-use borrow.Author.Tests.{eqb-true, eq-eqb}
+use borrow.Author.Tests.{eq-eqb}
 use Rattle.paper.specs.Multiset.{Arrangement, minus}
 use Rattle.paper.specs.Grammar.{Grammar, IsGrammar, IsRow, rule_count, left, members}
 use Rattle.paper.specs.Derivation.{Acceptable, InLanguage}
@@ -17,7 +16,7 @@ use Rattle.paper.specs.Entry.{Entry, Stands, finished}
 use Rattle.paper.specs.Sheet.{Sheet, list_at, IsSheet, is_top, tops}
 use Rattle.paper.specs.Building.{sheet_of}
 use Rattle.paper.proofs.Multiset.{arranged_refl, arranged_sym, arranged_nil}
-use Rattle.paper.proofs.Machine.{and_left, and_right, arranged_minus}
+use Rattle.paper.proofs.Machine.{arranged_minus}
 use Rattle.paper.proofs.Theorem7.{finished_rest, finished_tree}
 use Rattle.paper.proofs.Standing.{stands_by_trees, theorem_7, language_tree}
 use Rattle.paper.proofs.Building.{sheet_lists, sheet_ascending, sheet_found}
@@ -26,27 +25,14 @@ use Rattle.paper.proofs.Universe.{entry}
 
 -- every grammar has a sheet for every row of at most 64 tokens: the one that is built
 pub sheet_exists : (g : Grammar) (row : List ℕ) → IsGrammar g → length row ≤ 64 → IsSheet g row (sheet_of g row)
-sheet_exists g row is short =
-    record {
-      lists = sheet_lists g row;
-      exact = λ j e.
-          let found = sheet_found g row is short j e in
-          let stands = theorem_7 {g = g} {row = row} {j = j} {e = e} is.order in
-          (λ m. stands.0 (found.0 m), λ s. found.1 (stands.1 s));
-      ascending = sheet_ascending g row is short;
-    }
+sheet_exists g row is short = grind (arith, sheet_lists, sheet_found, theorem_7, sheet_ascending)
 
 -- ---- tops
 
 -- a top is a finished entry of the start symbol with origin 0
 top_parts : (g : Grammar) (e : Entry) → is_top g e ≡ true → (e.rest ≡ []) × (e.origin ≡ 0) × (left g e.rule ≡ g.start)
 unfolding is_top
-top_parts g e t =
-    let u = and_right (finished e) (eqb e.origin 0 && eqb (left g e.rule) g.start) t in (
-      finished_rest e (and_left (finished e) (eqb e.origin 0 && eqb (left g e.rule) g.start) t),
-      eqb-true e.origin 0 (and_left (eqb e.origin 0) (eqb (left g e.rule) g.start) u),
-      eqb-true (left g e.rule) g.start (and_right (eqb e.origin 0) (eqb (left g e.rule) g.start) u),
-    )
+top_parts g e t = grind (arith, finished_rest)
 
 top_is : (g : Grammar) (h : ℕ) → left g h ≡ g.start → is_top g (entry h 0 []) ≡ true
 unfolding is_top finished
@@ -81,9 +67,8 @@ module _ {g : Grammar} {row : List ℕ} where
 
   -- a tree of the row as the start symbol has a top: the start symbol is no token
   tree_top : IsGrammar g → IsRow g row → {a i j : ℕ} → Tree g row a i j → a ≡ g.start → i ≡ 0 → j ≡ length row → (e : Entry) × Stands g row (length row) e × (is_top g e ≡ true)
-  tree_top is is_row (Tree.token {i = i} l e) p q r = absurd (let z : ⊥ = omega (arith, is.start_is.above, (is_row.tokens_are i l).below) in z)
-  tree_top is is_row (Tree.node {s = s} h l e a c parts) p q r =
-      (entry h 0 [], whole_stands h l (e ∙ p) a c (subst₂ (Parts g row s) q r parts), top_is g h (e ∙ p))
+  tree_top is is_row (Tree.token {i = i} l e) p q r = grind arith
+  tree_top is is_row (Tree.node {s = s} h l e a c parts) p q r = grind (arith, whole_stands, top_is)
 
   -- 000, theorem 1: the last list has a top exactly if the row is in the language
   pub theorem_1 : {sheet : Sheet} → IsGrammar g → IsRow g row → IsSheet g row sheet → (1 ≤ tops g row sheet) ↔ InLanguage g row

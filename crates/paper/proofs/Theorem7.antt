@@ -1,12 +1,13 @@
 -- 000, theorem 7, over trees: the steps find an entry exactly if it stands.
 -- Assumes nothing.
-use mathlib.Core.Path.{◌≡◌, refl, sym, ◌∙◌, ap, subst}
+use mathlib.Core.Path.{◌≡◌, refl, sym, ◌∙◌, ap}
 use mathlib.Core.Bool.{true}
 use mathlib.Core.List.{List, [], ◌∷◌, ◌++◌, append-nil, append_assoc}
 use Prim.Native.Nat.{ℕ, suc, ◌≤◌, ◌<◌}
 use native.Mathlib.Omega.{arith}
 use lib.ListN.{length, get_or}
-use borrow.Author.Tests.{eqb-true, eq-eqb}
+use borrow.Author.Tests.{eqb-true}
+use Rattle.std.proofs.lemmas.List.{nil_from_length}
 use Rattle.paper.specs.Multiset.{Arrangement, without, minus}
 use Rattle.paper.specs.Grammar.{Grammar, rule_count, left, members, StrictPartialOrder}
 use Rattle.paper.specs.Derivation.{Acceptable}
@@ -34,15 +35,11 @@ pub record StandsByTrees (g : Grammar) (row : List ℕ) (j : ℕ) (e : Entry) : 
 
 pub finished_rest : (e : Entry) → finished e ≡ true → e.rest ≡ []
 unfolding finished
-finished_rest e h = empty e.rest (eqb-true (length e.rest) 0 h)
-  where
-    empty : (s : List ℕ) → length s ≡ 0 → s ≡ []
-    empty [] z = refl
-    empty (a ∷ s) z = absurd (let k : ⊥ = omega arith in k)
+finished_rest e h = nil_from_length e.rest (eqb-true (length e.rest) 0 h)
 
 pub rest_finished : (e : Entry) → e.rest ≡ [] → finished e ≡ true
 unfolding finished
-rest_finished e h = eq-eqb (length e.rest) 0 (ap length h)
+rest_finished e h = cc
 
 -- ## What the steps find stands
 
@@ -205,7 +202,7 @@ sought_found o (below n s t b u r c ps) h p q = sought_predicts o n s t r c ps (
 
 -- an entry is its rule, its origin and its rest
 same_rest : {g : Grammar} {row : List ℕ} {j : ℕ} (e : Entry) {s : List ℕ} → e.rest ≡ s → Found g row j (record { rule = e.rule; origin = e.origin; rest = s }) → Found g row j e
-same_rest {g} {row} {j} e z f = subst (λ (s : List ℕ). Found g row j (record { rule = e.rule; origin = e.origin; rest = s })) (sym z) f
+same_rest {g} {row} {j} e z f = grind arith
 
 -- 000, theorem 7, "if": what stands, the steps find
 pub stands_found : {g : Grammar} {row : List ℕ} {j : ℕ} {e : Entry} → StrictPartialOrder g.precedes → StandsByTrees g row j e → Found g row j e

@@ -21,7 +21,7 @@ slice_join row i k j h l m =
     sym (drop-append-le i (take k row) (slice k j row) short) ∙ ap (drop i) (ap (◌++ slice k j row) (sym (take-take k j row l)) ∙ take-append-drop k (take j row))
 
 slice_one : (row : List ℕ) (i : ℕ) → i < length row → slice i (suc i) row ≡ get_or row i 0 ∷ []
-slice_one row i h = slice-cons i (suc i) row 0 (omega arith) h ∙ ap (get_or row i 0 ∷◌) (slice_empty (suc i) row)
+slice_one row i h = grind (arith, slice-cons, slice_empty)
 
 join_span : (i k j n : ℕ) → (i ≤ k) × (k ≤ n) → (k ≤ j) × (j ≤ n) → (i ≤ j) × (j ≤ n)
 join_span i k j n p q = (omega arith, q.1)

@@ -11,7 +11,7 @@ use Rattle.paper.proofs.Closure.{Climbs, ascending_climbs, climbs_same}
 
 -- the words of each list ascend
 pub sheet_climbs : {g : Grammar} {row : List ℕ} {s : Sheet} → IsSheet g row s → (j : ℕ) → Climbs 0 (map (word g) (list_at s j))
-sheet_climbs {g} {row} {s} p j = ascending_climbs 0 (map (word g) (list_at s j)) (λ i l. omega arith) (p.ascending j)
+sheet_climbs {g} {row} {s} p j = grind (arith, ascending_climbs)
 
 -- two sheets of one grammar and row are equal
 pub sheet_unique : {g : Grammar} {row : List ℕ} {s t : Sheet} → IsSheet g row s → IsSheet g row t → s ≡ t

@@ -25,11 +25,11 @@ pub record Possible (g : Grammar) (j : ℕ) (e : Entry) : Type 0 where
   pub listed : Listed e.rest (members g e.rule)
 
 pub possible_fresh : (g : Grammar) (h j : ℕ) → h < rule_count g → Possible g j (fresh g h j)
-possible_fresh g h j l = record { is_rule = l; origin_le = omega arith; listed = listed_all (members g h) }
+possible_fresh g h j l = grind (arith, listed_all)
 
 -- what is taken leaves a possible entry, on any later list too
 pub possible_taking : {g : Grammar} {i : ℕ} {e : Entry} (a j : ℕ) → i ≤ j → Possible g i e → Possible g j (taking a e)
-possible_taking {g} {i} {e} a j l p = record { is_rule = p.is_rule; origin_le = omega arith; listed = listed_without a (members g e.rule) p.listed }
+possible_taking {g} {i} {e} a j l p = grind (arith, listed_without)
 
 -- what the steps find is possible
 pub found_possible : {g : Grammar} {row : List ℕ} {j : ℕ} {e : Entry} → Found g row j e → Possible g j e
@@ -75,14 +75,7 @@ length_with_origins h listed (suc i) =
 length_with_rules : (h n : ℕ) (rules : List Rule) → length (with_rules h n rules) ≡ sum (λ r. length (sub_multisets r.members)) rules * n
 unfolding with_rules sum
 length_with_rules h n [] = omega (arith, zero-mul n)
-length_with_rules h n (r ∷ rules) =
-    omega (
-      arith,
-      length-append (with_origins h (sub_multisets r.members) n) (with_rules (suc h) n rules),
-      length_with_origins h (sub_multisets r.members) n,
-      length_with_rules (suc h) n rules,
-      add-mul (length (sub_multisets r.members)) (sum (λ q. length (sub_multisets q.members)) rules) n,
-    )
+length_with_rules h n (r ∷ rules) = search (rules, length-append, length_with_origins, add-mul, length_with_rules (suc h) n rules)
 
 -- there are D(j + 1) of them
 pub universe_size : (g : Grammar) (j : ℕ) → length (universe g j) ≡ rests g * suc j
@@ -91,7 +84,7 @@ universe_size g j = length_with_rules 0 (suc j) g.rules
 
 pub with_origins_has : (h i : ℕ) {r : List ℕ} (listed : List (List ℕ)) (n : ℕ) → i < n → Memᴰ r listed → Memᴰ (entry h i r) (with_origins h listed n)
 unfolding with_origins
-with_origins_has h i listed zero l m = absurd (let z : ⊥ = omega arith in z)
+with_origins_has h i listed zero l m = absurd (omega arith)
 with_origins_has h i {r} listed (suc n) l m = go (dec_lt i n) (λ k. with_origins_has h i listed n k m)
   where
     go : Dec (i < n) → (i < n → Memᴰ (entry h i r) (with_origins h listed n)) → Memᴰ (entry h i r) (map (entry h n) listed ++ with_origins h listed n)
@@ -101,7 +94,7 @@ with_origins_has h i {r} listed (suc n) l m = go (dec_lt i n) (λ k. with_origin
 with_rules_has : (h k i n : ℕ) {r : List ℕ} (rules : List Rule) → k < length rules → i < n → Memᴰ r (sub_multisets (get_or rules k (record { left = 0; members = [] })).members)
     → Memᴰ (entry (h + k) i r) (with_rules h n rules)
 unfolding with_rules
-with_rules_has h k i n [] l j m = absurd (let z : ⊥ = omega arith in z)
+with_rules_has h k i n [] l j m = absurd (omega arith)
 with_rules_has h zero i n {r} (q ∷ rules) l j m =
     let e : h + 0 ≡ h = omega arith in
     Memᴰ.append_left (with_rules (suc h) n rules) (Memᴰ.cast (ap (λ x. entry x i r) e) (with_origins_has h i (sub_multisets q.members) n j m))

@@ -6,17 +6,15 @@ use mathlib.Core.Bool.{cond}
 use mathlib.Core.List.{List, [], ◌∷◌}
 use Prim.Native.Nat.{ℕ, ◌+◌, ◌*◌, ◌^◌, ◌/◌, ◌%◌, ◌≤◌, ◌<◌}
 use native.Mathlib.Omega.{arith}
-use native.Mathlib.Nat.{pow-suc, pow-le-pow_right}
-use native.Mathlib.Decide.{ℕ_discrete}
-use lib.Dec.{eqb, leb}
+use native.Mathlib.Nat.{pow-le-pow_right}
+use lib.Dec.{eqb}
 use lib.ListN.{length}
 use lib.Count.{ones, ones_in, ones_step}
-use borrow.Author.Tests.{le-leb, lt-leb}
 use Rattle.paper.specs.Multiset.{count, minus}
 use Rattle.paper.specs.Grammar.{Grammar, IsGrammar, rule_count, members}
 use Rattle.paper.specs.Entry.{Entry}
 use Rattle.paper.specs.Sheet.{mask, word, rest_of, entry_of}
-use Rattle.paper.proofs.Multiset.{count_self, count_other, bit_le}
+use Rattle.paper.proofs.Multiset.{count_self, count_other}
 use Rattle.paper.proofs.SubMultisets.{Listed, Present, listed_cases, listed_nil, listed_count, listed_minus}
 
 -- ---- masks
@@ -25,7 +23,7 @@ use Rattle.paper.proofs.SubMultisets.{Listed, Present, listed_cases, listed_nil,
 pub mask_below : (s rest : List ℕ) → mask s rest < 2 ^ length s
 unfolding mask
 mask_below [] rest = omega arith
-mask_below (a ∷ s) rest = omega (arith, mask_below s rest, pow-suc 2 (length s), bit_le (leb (count a (a ∷ s)) (count a rest)))
+mask_below (a ∷ s) rest = grind (arith, mask_below s rest)
 
 count_behind : (a b : ℕ) (s : List ℕ) → count b s ≤ count b (a ∷ s)
 unfolding count
@@ -35,13 +33,7 @@ count_behind a b s = omega arith
 mask_more : (a : ℕ) (q s : List ℕ) → count a s ≤ count a q → mask s (a ∷ q) ≡ mask s q
 unfolding mask
 mask_more a q [] h = refl
-mask_more a q (b ∷ s) h = go (ℕ_discrete b a) (mask_more a q s (omega (arith, count_behind b a s)))
-  where
-    go : Dec (b ≡ a) → mask s (a ∷ q) ≡ mask s q → mask (b ∷ s) (a ∷ q) ≡ mask (b ∷ s) q
-    go (yes e) ih =
-        let k : count b (b ∷ s) ≤ count b q = rw (← e) at h in
-        rw (le-leb (count b (b ∷ s)) (count b q) k, le-leb (count b (b ∷ s)) (count b (a ∷ q)) (omega (arith, count_behind a b q)), ih)
-    go (no ne) ih = rw (count_other b a q ne, ih)
+mask_more a q (b ∷ s) h = grind (arith, count_behind, count_other, mask_more a q s (omega (arith, count_behind b a s)))
 
 -- a lowest bit of 0 or 1 in front of a number can be cut off again
 low_bit : (b n : ℕ) → b ≤ 1 → (b + 2 * n) % 2 ≡ b
@@ -57,11 +49,11 @@ rest_of_bit a s b n l = rw (low_bit b n l, high_bits b n l)
 
 pub mask_missing : (a : ℕ) (s : List ℕ) {r : List ℕ} → Listed r s → mask (a ∷ s) r ≡ 0 + 2 * mask s r
 unfolding mask
-mask_missing a s {r} m = rw (lt-leb (count a (a ∷ s)) (count a r) (omega (arith, listed_count a s m, count_self a s)))
+mask_missing a s {r} m = grind (arith, listed_count, count_self)
 
 pub mask_present : (a : ℕ) (s q : List ℕ) → count a q ≡ count a s → mask (a ∷ s) (a ∷ q) ≡ 1 + 2 * mask s q
 unfolding mask
-mask_present a s q e = rw (le-leb (count a (a ∷ s)) (count a (a ∷ q)) (omega (arith, count_self a s, count_self a q)), mask_more a q s (omega arith))
+mask_present a s q e = grind (arith, count_self, mask_more)
 
 -- the members whose bit is set in the mask of a rest are that rest
 pub rest_of_mask : (s : List ℕ) {r : List ℕ} → Listed r s → rest_of s (mask s r) ≡ r
@@ -80,7 +72,7 @@ pub rest_of_minus : (s found : List ℕ) → rest_of s (mask s (minus s found)) 
 rest_of_minus s found = rest_of_mask s (listed_minus s found)
 
 ones_bit : (b n : ℕ) → b ≤ 1 → ones (b + 2 * n) ≡ b + ones n
-ones_bit b n l = omega (arith, ones_step (b + 2 * n), low_bit b n l, ap ones (high_bits b n l))
+ones_bit b n l = grind (arith, ones_step)
 
 -- 01: "how many are left is the number of ones in it"
 pub ones_mask : (s : List ℕ) {r : List ℕ} → Listed r s → ones (mask s r) ≡ length r
@@ -97,32 +89,15 @@ ones_mask (a ∷ s) {r} m = go (listed_cases a s m) (λ q n. ones_mask s n)
 
 -- A mask is a byte.
 pub mask_byte : (g : Grammar) → IsGrammar g → (h : ℕ) (rest : List ℕ) → h < rule_count g → mask (members g h) rest < 256
-mask_byte g is h rest l = let k : 2 ^ length (members g h) ≤ 2 ^ 8 = pow-le-pow_right (omega arith) (is.few_members h l) in omega (arith, mask_below (members g h) rest)
-
-same_entry : (e f : Entry) → e.rule ≡ f.rule → e.origin ≡ f.origin → e.rest ≡ f.rest → e ≡ f
-same_entry e f p q r = λ i. record { rule = p i; origin = q i; rest = r i }
-
--- the parts of a word: rule, origin and a byte
-word_rule : (h i b : ℕ) → i < 256 → b < 256 → (h * 65536 + i * 256 + b) / 65536 ≡ h
-word_rule h i b l k = omega arith
-
-word_origin : (h i b : ℕ) → i < 256 → b < 256 → (h * 65536 + i * 256 + b) / 256 % 256 ≡ i
-word_origin h i b l k = omega arith
-
-word_byte : (h i b : ℕ) → i < 256 → b < 256 → (h * 65536 + i * 256 + b) % 256 ≡ b
-word_byte h i b l k = omega arith
+mask_byte g is h rest l = grind (arith, pow-le-pow_right, mask_below)
 
 module _ (g : Grammar) (is : IsGrammar g) where
   -- the word is read back as the entry that it is of
   pub entry_of_word : (e : Entry) → e.rule < rule_count g → e.origin < 256 → Listed e.rest (members g e.rule) → entry_of g (word g e) ≡ e
   unfolding entry_of word
-  entry_of_word e l k m =
-      let b = mask_byte g is e.rule e.rest l in
-      let p = word_rule e.rule e.origin (mask (members g e.rule) e.rest) k b in
-      same_entry (entry_of g (word g e)) e p (word_origin e.rule e.origin (mask (members g e.rule) e.rest) k b)
-      (ap (λ h. rest_of (members g h) (word g e % 256)) p ∙ (ap (rest_of (members g e.rule)) (word_byte e.rule e.origin (mask (members g e.rule) e.rest) k b) ∙ rest_of_mask (members g e.rule) m))
+  entry_of_word e l k m = grind (arith, mask_byte, rest_of_mask)
 
   -- no two entries have one word
   pub word_same : (e f : Entry) → e.rule < rule_count g → f.rule < rule_count g → e.origin < 256 → f.origin < 256
       → Listed e.rest (members g e.rule) → Listed f.rest (members g f.rule) → word g e ≡ word g f → e ≡ f
-  word_same e f l k i j m n w = sym (entry_of_word e l i m) ∙ (ap (entry_of g) w ∙ entry_of_word f k j n)
+  word_same e f l k i j m n w = grind (arith, entry_of_word)

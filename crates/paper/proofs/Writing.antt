@@ -44,14 +44,10 @@ record Growth (g : Grammar) (row : List ℕ) (f : ℕ) (before : List ℕ) (n : 
 
 -- nothing is added
 no_growth : {g : Grammar} {row ns : List ℕ} {n f : ℕ} → Table g row ns n → Growth g row f ns n ns n
-no_growth {ns = ns} t = record { more = omega arith; extends = extends_refl ns; table = t; trees = λ k b c. absurd (let z : ⊥ = omega arith in z) }
-
--- a bound on heights may be raised
-higher : {g : Grammar} {row : List ℕ} {f a i j : ℕ} → LowTree g row f a i j → LowTree g row (suc f) a i j
-higher t = record { tree = t.tree; low = let b = t.low in omega arith }
+no_growth {ns = ns} t = grind (arith, extends_refl)
 
 growth_higher : {g : Grammar} {row before after : List ℕ} {n count f : ℕ} → Growth g row f before n after count → Growth g row (suc f) before n after count
-growth_higher w = record { more = w.more; extends = w.extends; table = w.table; trees = λ k b c. higher (w.trees k b c) }
+growth_higher w = grind arith
 
 -- one growth after another
 growth_then : {g : Grammar} {row ns ms ls : List ℕ} {n m l f : ℕ} → Growth g row f ns n ms m → Growth g row f ms m ls l → Growth g row f ns n ls l
@@ -119,8 +115,8 @@ unwritten {ns = ns} {n = n} {slot = slot} t h = record {
   growth = no_growth t;
   slot = slot;
   held = h;
-  last = λ b. absurd (let z : ⊥ = omega arith in z);
-  used = λ k b c. absurd (let z : ⊥ = omega arith in z);
+  last = λ b. absurd (omega arith);
+  used = λ k b c. absurd (omega arith);
 }
 
 -- a slot in front moves the others by one place
@@ -151,7 +147,7 @@ part_then {n = n} is w v = record {
 -- no parts, no slots
 no_parts : {g : Grammar} {row ns : List ℕ} {f n i : ℕ} → Table g row ns n → PartsWritten g row f ns n [] i i
 no_parts {ns = ns} {n = n} t =
-    record { after = ns; count = n; growth = no_growth t; slots = []; joins = Joins.end; used = λ k b c. absurd (let z : ⊥ = omega arith in z) }
+    record { after = ns; count = n; growth = no_growth t; slots = []; joins = Joins.end; used = λ k b c. absurd (omega arith) }
 
 -- A row of parts can be written if each part can.
 write_parts : {g : Grammar} {row : List ℕ} {f i j : ℕ} {s : List ℕ} → IsGrammar g → Writes g row f → (parts : Parts g row s i j) → heights parts ≤ f
@@ -164,12 +160,7 @@ write_parts is writes (Parts.part {a = a} {i = i} {k = m} tree parts) low ns n t
 -- one line has been written behind a table, for this tree
 growth_line : {g : Grammar} {row ns : List ℕ} {f n : ℕ} (h i j : ℕ) (slots : List ℕ) → Table g row ns n → Table g row (ns ++ line_of h i j slots) (suc n)
     → LowTree g row f (left g h) i j → Growth g row f ns n (ns ++ line_of h i j slots) (suc n)
-growth_line {g} {row} {ns} {f} {n} h i j slots t u tree =
-    record { more = omega arith; extends = extends_append ns (line_of h i j slots); table = u; trees = λ k b c. at_end k (omega arith) }
-  where
-    at_end : (k : ℕ) → k ≡ n
-        → LowTree g row f (line_symbol g (ns ++ line_of h i j slots) k) (line_from (ns ++ line_of h i j slots) k) (line_to (ns ++ line_of h i j slots) k)
-    at_end k e = let back = reads_back ns n h i j slots t.whole in rw (e, back.rule_is, back.from_is, back.to_is) tree
+growth_line {g} {row} {ns} {f} {n} h i j slots t u tree = grind (arith, reads_back)
 
 -- the line behind the lines of its parts uses them
 used_behind : {n k : ℕ} (ns : List ℕ) (h i j : ℕ) (slots : List ℕ) → length ns ≡ line_size * n → k < n → Named slots k → Used (ns ++ line_of h i j slots) (suc n) k
@@ -216,8 +207,7 @@ brought {g} {row} {f = f} {n = n} {a = a} {i = i} {j = j} t none w l = go (dec_l
     go (no b) = rw (l.symbol_is, l.from_is, l.to_is) at (w.trees l.line (omega arith) l.below)
 
 written_higher : {g : Grammar} {row ns : List ℕ} {f n a i j : ℕ} → Written g row f ns n a i j → Written g row (suc f) ns n a i j
-written_higher w =
-    record { after = w.after; count = w.count; growth = growth_higher w.growth; slot = w.slot; held = w.held; last = w.last; used = w.used }
+written_higher w = grind arith
 
 -- A tree can be written if all lower trees can.
 write_node : {g : Grammar} {row : List ℕ} {f i j : ℕ} {s : List ℕ} (h : ℕ) → IsGrammar g → Writes g row f → h < rule_count g → Arrangement s (members g h)
@@ -236,13 +226,12 @@ write_node {g} {row} {f} {i} {j} {s} h is writes b arranged acceptable parts low
 -- one more rule above
 write_step : {g : Grammar} {row : List ℕ} {f : ℕ} → IsGrammar g → Writes g row f → Writes g row (suc f)
 write_step is writes ns n t a i j (Tree.token b e) low = unwritten t (Held.token b e)
-write_step is writes ns n t a i j (Tree.node h b e arranged acceptable parts) low =
-    rw (← e) (write_node h is writes b arranged acceptable parts (omega arith) ns n t)
+write_step is writes ns n t a i j (Tree.node h b e arranged acceptable parts) low = grind (arith, write_node)
 
 -- a tree of height 0 is a token, and needs no line
 write_token : {g : Grammar} {row : List ℕ} → Writes g row 0
 write_token ns n t a i j (Tree.token b e) low = unwritten t (Held.token b e)
-write_token ns n t a i j (Tree.node h b e arranged acceptable parts) low = absurd (let z : ⊥ = omega arith in z)
+write_token ns n t a i j (Tree.node h b e arranged acceptable parts) low = absurd (omega arith)
 
 -- Every tree can be written behind any table.
 write : {g : Grammar} {row : List ℕ} → IsGrammar g → (f : ℕ) → Writes g row f
@@ -252,7 +241,7 @@ write is (suc f) = write_step is (write is f)
 -- no token is a nonterminal, so a nonterminal is held by a line
 held_line : {g : Grammar} {row ns : List ℕ} {n slot a i j : ℕ} → IsRow g row → g.terminals ≤ a → Held g row ns n slot a i j
     → (l : HasLine g ns n a i j) × (slot ≡ suc l.line)
-held_line tokens b (Held.token {i = i} h e) = absurd (let c = (tokens.tokens_are i h).below in let z : ⊥ = omega arith in z)
+held_line tokens b (Held.token {i = i} h e) = grind arith
 held_line tokens b (Held.line l) = (l, refl)
 
 -- The start symbol written over the whole row into the empty table gives valid lines.
@@ -280,7 +269,7 @@ valid {g} {row} {f} is tokens w =
 
 -- the table to begin with
 empty_table : {g : Grammar} {row : List ℕ} → Table g row [] 0
-empty_table = record { whole = omega arith; right = λ k b. absurd (let z : ⊥ = omega arith in z) }
+empty_table = grind arith
 
 -- Every row that has a tree has valid lines.
 pub lines_exist : {g : Grammar} {row : List ℕ} → IsGrammar g → IsRow g row → Tree g row g.start 0 (length row) → (ns : List ℕ) × Valid g row ns

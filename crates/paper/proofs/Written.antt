@@ -3,10 +3,11 @@
 use mathlib.Core.Path.{◌≡◌, refl, sym, ◌∙◌, ap}
 use Rattle.std.specs.Prelude.{None}
 use mathlib.Core.List.{List, [], ◌∷◌, ◌++◌}
-use Prim.Native.Nat.{ℕ, zero, suc, ◌+◌, ◌*◌, ◌/◌, ◌%◌, ◌≤◌, ◌<◌}
+use Prim.Native.Nat.{ℕ, zero, suc, ◌+◌, ◌*◌, ◌≤◌, ◌<◌}
 use native.Mathlib.Omega.{arith}
 use lib.ListN.{length, take, drop, take-append-drop, length-drop, drop_of_length-le}
 use lib.Seq.{drop-cons, drop-drop, take_all}
+use Rattle.std.proofs.lemmas.List.{nil_from_length}
 use Rattle.paper.specs.Image.{byte, kind, offset, extent, body, record_size, record_of, rule_of, rules_of, pairs_of, image_symbols, image_terminals, image_pairs, image_fault, grammar_of}
 use Rattle.paper.specs.Records.{record_at}
 use Rattle.paper.specs.Written.{AreBytes, entry_bytes, symbols_body, rule_bytes, rules_bytes, rules_body, order_body, contents_bytes, image_bytes, written}
@@ -21,29 +22,21 @@ bytes_from (suc n) i s = byte s i ∷ bytes_from n (suc i) s
 
 bytes_from_lem : (n i : ℕ) (s : List ℕ) → i + n ≤ length s → drop i s ≡ bytes_from n i s ++ drop (i + n) s
 bytes_from_lem zero i s l = let e : i + 0 ≡ i = omega arith in rw e
-bytes_from_lem (suc n) i s l =
-    let e : i + suc n ≡ suc i + n = omega arith in
-    drop-cons s i 0 (omega arith) ∙ (ap {B = List ℕ} (byte s i ∷◌) (bytes_from_lem n (suc i) s (omega arith)) ∙ rw e)
+bytes_from_lem (suc n) i s l = grind (arith, drop-cons, bytes_from_lem n (suc i) s (omega arith))
 
 -- The bodies.
 
 symbols_written : (s : List ℕ) → length s ≡ 3 → s ≡ symbols_body (byte s 0) (byte s 1) (byte s 2)
 symbols_written s e = bytes_from_lem 3 0 s (omega arith) ∙ rw (drop_of_length-le s {i = 3} (omega arith))
 
-nil_of_length : (r : List ℕ) → length r ≡ 0 → [] ≡ r
-nil_of_length [] e = refl
-nil_of_length (a ∷ r) e = absurd (let z : ⊥ = omega arith in z)
-
 record_written : (terminals symbols more : ℕ) (last r : List ℕ) → RightRecords terminals symbols (suc more) last r
     → (rest : List ℕ) → rest ≡ drop (record_size r) r → rule_bytes (rule_of r) ++ rest ≡ r
 unfolding record_at
-record_written terminals symbols more last r run rest e =
-    let fits = (record_right_lem terminals symbols r (run.right 0 (omega arith))).fits in
-    ap {B = List ℕ} (rule_bytes (rule_of r) ++◌) e ∙ (ap {B = List ℕ} (◌++ drop (record_size r) r) (sym (record_bytes r fits)) ∙ take-append-drop (record_size r) r)
+record_written terminals symbols more last r run rest e = grind (arith, record_right_lem, record_bytes, take-append-drop)
 
 records_written : (terminals symbols more : ℕ) (last r : List ℕ) → RightRecords terminals symbols more last r → rules_bytes (rules_of more r) ≡ r
 unfolding rules_bytes rules_of record_at
-records_written terminals symbols zero last r run = nil_of_length r run.filled
+records_written terminals symbols zero last r run = sym (nil_from_length r run.filled)
 records_written terminals symbols (suc more) last r run =
     record_written terminals symbols more last r run (rules_bytes (rules_of more (drop (record_size r) r)))
     (records_written terminals symbols more (record_of r) (drop (record_size r) r) (records_tail terminals symbols more last r run))
@@ -56,20 +49,15 @@ rules_written terminals symbols r right =
 order_written : (p : List ℕ) → length p ≡ 2 * length (pairs_of p) → p ≡ order_body (pairs_of p)
 unfolding pairs_of order_body
 order_written [] e = refl
-order_written (a ∷ []) e = absurd (let z : ⊥ = omega arith in z)
-order_written (a ∷ b ∷ p) e = ap {B = List ℕ} (λ s. a ∷ b ∷ s) (order_written p (omega arith))
+order_written (a ∷ []) e = absurd (omega arith)
+order_written (a ∷ b ∷ p) e = cc (order_written p (omega arith))
 
 -- The contents.
 
 -- a number of two bytes has these two, high byte first
 entry_written : (k a b c d kind offset : ℕ) (s t : List ℕ) → k ≡ kind → a * 256 + b ≡ offset → b < 256 → d < 256 → s ≡ t
     → k ∷ a ∷ b ∷ c ∷ d ∷ s ≡ entry_bytes kind offset (c * 256 + d) ++ t
-entry_written k a b c d kind offset s t e f l m g =
-    let p : a ≡ offset / 256 = omega arith in
-    let q : b ≡ offset % 256 = omega arith in
-    let u : c ≡ (c * 256 + d) / 256 = omega arith in
-    let v : d ≡ (c * 256 + d) % 256 = omega arith in
-    λ i. e i ∷ p i ∷ q i ∷ u i ∷ v i ∷ g i
+entry_written k a b c d kind offset s t e f l m g = grind arith
 
 contents_written : (b : List ℕ) → AreBytes b → RightContents b → b ≡ contents_bytes (extent b 0) (extent b 1) (extent b 2) ++ drop 17 b
 contents_written b h c = bytes_from_lem 17 0 b c.size ∙ (λ i. c.form i ∷ c.bodies i ∷ first i)
@@ -108,8 +96,7 @@ bodies_follow b o p q x y z e f g =
 
 parts_written : (b first second third : List ℕ) (x y z : ℕ) → length first ≡ x → length second ≡ y → length third ≡ z
     → b ≡ contents_bytes x y z ++ (first ++ (second ++ third)) → (f s t : List ℕ) → first ≡ f → second ≡ s → third ≡ t → b ≡ image_bytes f s t
-parts_written b first second third x y z e g h k f s t u v w =
-    k ∙ ((λ i. contents_bytes (sym e i) (sym g i) (sym h i) ++ (first ++ (second ++ third))) ∙ (λ i. image_bytes (u i) (v i) (w i)))
+parts_written b first second third x y z e g h k f s t u v w = cc
 
 -- An admitted image is what is written of its own parts.
 pub image_written : (b : List ℕ) → AreBytes b → image_fault b ≡ None

@@ -15,7 +15,8 @@ use Rattle.paper.specs.Entry.{may_take}
 use Rattle.paper.specs.Sheet.{mask, rest_of}
 use Rattle.tables.specs.Masks.{Proper, Takeable, LastFound, TakenFrom}
 use Rattle.tables.specs.Table.{bars_of}
-use Rattle.paper.proofs.Bits.{bit_cases, bit_place, bit_power_le, bit_lt, bit_zero, bit_or_lem, set_here, set_other, set_lt, clear_here, clear_other, clear_lt, trailing_lt, trailing_set, leading_set, leading_clear}
+use borrow.Author.Numbers.{trailing_lt}
+use Rattle.paper.proofs.Bits.{bit_cases, bit_place, bit_power_le, bit_lt, bit_zero, bit_or_lem, set_here, set_other, set_lt, clear_here, clear_other, clear_lt, trailing_set, leading_set, leading_clear}
 use Rattle.tables.proofs.Masks.{full_mask, may, may_back, may_not, take_mask, taken_exactly, last_once}
 
 -- a byte with a bit for each of at most eight members is no wider
@@ -76,7 +77,7 @@ module _ {s : List ℕ} {all untried : ℕ} {So : ℕ → Type 0} (below : all <
 
   -- the lowest
   pub lowest : IsNext s all untried (count_trailing_zeros 8 untried)
-  lowest = next (count_trailing_zeros 8 untried) (trailing_lt 8 untried some fits) (trailing_set 8 untried some fits)
+  lowest = next (count_trailing_zeros 8 untried) (trailing_lt 8 untried (omega arith) fits) (trailing_set 8 untried some fits)
 
   -- the highest
   pub highest : IsNext s all untried (7 - count_leading_zeros 8 untried)
