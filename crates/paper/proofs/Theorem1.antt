@@ -1,4 +1,4 @@
--- The sheet exists, and 000's theorem 1: a row has a top exactly if it is in the language.
+-- The sheet exists, and a row has a top exactly if it is in the language (Shieber, theorem 1).
 -- Assumes nothing.
 use mathlib.Core.Path.{◌≡◌, refl, sym, ◌∙◌, subst₂}
 use mathlib.Core.Logic.{◌↔◌}
@@ -85,7 +85,7 @@ module _ {g : Grammar} {row : List ℕ} where
   tree_top is is_row (Tree.node {s = s} h l e a c parts) p q r =
       (entry h 0 [], whole_stands h l (e ∙ p) a c (subst₂ (Parts g row s) q r parts), top_is g h (e ∙ p))
 
-  -- 000, theorem 1: the last list has a top exactly if the row is in the language
+  -- Shieber, theorem 1: the last list has a top exactly if the row is in the language
   pub theorem_1 : {sheet : Sheet} → IsGrammar g → IsRow g row → IsSheet g row sheet → (1 ≤ tops g row sheet) ↔ InLanguage g row
   unfolding tops
   theorem_1 {sheet} is is_row sheet_is = (to, from)
