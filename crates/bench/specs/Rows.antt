@@ -1,4 +1,4 @@
--- The rows of document 01, "Rows on the bench", that are marked p, as one table; and what it is that a row of the table holds.
+-- The worked rows of the bench as one table, and what it is that a row of the table holds.
 -- Assumes nothing.
 use Rattle.std.specs.Prelude.{◌≡◌, Some, None, Result, Ok, List, [], ◌∷◌, map, ℕ, ◌≤◌, ◌<◌, length}
 use Rattle.paper.specs.Derivation.{InLanguage}
@@ -13,7 +13,7 @@ use Rattle.paper.specs.declared.Refusal.{Refusal}
 use Rattle.paper.specs.declared.Counts.{Counts}
 use Rattle.paper.specs.declared.Reading.{Reading}
 
--- what document 01 says of a value: nothing, or which it is
+-- what a row says of a value: nothing, or which it is
 pub data Said (A : Type 0) : Type 0 where
   unsaid : Said A
   said : A → Said A
@@ -27,15 +27,15 @@ pub record Derivation : Type 0 where
   pub lines : ℕ
   pub bracket : List ℕ
 
--- A row of the bench: what is given to a reading, and what document 01 says of it.
+-- A row of the bench: what is given to a reading, and what is said of it.
 pub record Row : Type 0 where
   pub image : List ℕ
   pub tokens : List ℕ
   -- how many words the lent sheet has
   pub words : ℕ
-  -- 0 read, 1 unread, or the number of the refusal
+  -- 0 read, 1 unread, or the number of the refusal (R2, R4)
   pub number : ℕ
-  -- how many entries stand on each list
+  -- how many entries stand on each list (P3)
   pub lists : Said (List ℕ)
   pub entries : Said ℕ
   pub steps : Said ℕ
@@ -61,7 +61,7 @@ pub record Derived (row : Row) : Type 0 where
 pub data Holds (row : Row) : Type 0 where
   -- 10 to 14, 20, 21
   refused : (why : Refusal) → row_refusal row.image row.tokens ≡ Some why → row.number ≡ number_of why → Holds row
-  -- 24: "more entries than the sheet has words"
+  -- 24: the sheet does not fit
   overfull : row_refusal row.image row.tokens ≡ None → (c : Counted row) → row.words < entries c.sheet → row.number ≡ number_of Refusal.FewWords → Holds row
   read : row_refusal row.image row.tokens ≡ None → (c : Counted row) → entries c.sheet ≤ row.words → InLanguage (grammar_of row.image) row.tokens
       → Derived row → row.number ≡ 0 → Holds row
@@ -80,7 +80,7 @@ pub record Answers (row : Row) (answer : Result Reading Refusal) : Type 0 where
   pub if_read : (counts : Counts) → answer ≡ Ok (Reading.Read counts) → CountsSaid row counts
   pub if_unread : (counts : Counts) → answer ≡ Ok (Reading.Unread counts) → CountsSaid row counts
 
--- 01, "The program": "It lends 16,384 sheet words"
+-- how many sheet words the program lends (P2)
 abbrev pub lent : ℕ
 lent = 16384
 
@@ -94,12 +94,13 @@ abbrev pub reading : List ℕ → List ℕ → Said ℕ → Said ℕ → Row
 reading image tokens entries steps =
     record { image = image; tokens = tokens; words = lent; number = 0; lists = unsaid; entries = entries; steps = steps; tops = unsaid; derivation = unsaid }
 
--- a row that is unread; "An unread row prints `unread` for `read`, with lines 0 and tops 0"
+-- a row that is unread, and so has no tops (R4), with the entries and steps that are said
 abbrev pub unreading : List ℕ → List ℕ → Said ℕ → Said ℕ → Row
 unreading image tokens entries steps =
     record { image = image; tokens = tokens; words = lent; number = 1; lists = unsaid; entries = entries; steps = steps; tops = said 0; derivation = unsaid }
 
--- The plate of "The program", with so many sheet words: `read entries 11 steps 11 lines 3 tops 1`, then `3 1 3 1 1 2`, then `(0(2 3 1)(1 1 0 2))`, here as bytes
+-- The plate `3 1 1 0 2` of the house grammar, read with so many sheet words. The bracket, here as bytes, is `(0(2 3 1)(1 1 0 2))`: a serial mark with
+-- its value, then a rating of value, label and unit (L6).
 abbrev pub plate : ℕ → Row
 plate words =
     record {
@@ -116,56 +117,56 @@ plate words =
 
 -- Images with one nonterminal, the start symbol. Their bodies: symbols (T, N, start), rules (how many; left symbol, how many members, members), order.
 
--- T=1, N=1, rule 1={}
+-- T=1, N=1, and one rule: symbol 1 with no members
 abbrev pub empty_rule : List ℕ
 empty_rule = image_bytes (1 ∷ 1 ∷ 1 ∷ []) (1 ∷ 1 ∷ 0 ∷ []) []
 
--- only rule 1={1}
+-- T=1, N=1, and one rule: symbol 1 with itself for its only member
 abbrev pub own_member : List ℕ
 own_member = image_bytes (1 ∷ 1 ∷ 1 ∷ []) (1 ∷ 1 ∷ 1 ∷ 1 ∷ []) []
 
--- only rule 1={0,0}
+-- T=1, N=1, and one rule: symbol 1 with two equal members, tokens 0
 abbrev pub two_equals : List ℕ
 two_equals = image_bytes (1 ∷ 1 ∷ 1 ∷ []) (1 ∷ 1 ∷ 2 ∷ 0 ∷ 0 ∷ []) []
 
--- rule 2={0,1}, 0 before 1
+-- T=2, N=1, and one rule: symbol 2 with members 0 and 1, of which 0 precedes 1
 abbrev pub ordered : List ℕ
 ordered = image_bytes (2 ∷ 1 ∷ 2 ∷ []) (1 ∷ 2 ∷ 2 ∷ 0 ∷ 1 ∷ []) (0 ∷ 1 ∷ [])
 
--- order 0<1, 1<2 only, beside rule 3={0,1,2}
+-- T=3, N=1, and one rule: symbol 3 with members 0, 1 and 2; 0 precedes 1 and 1 precedes 2, but 0 does not precede 2 (G3)
 abbrev pub unclosed : List ℕ
 unclosed = image_bytes (3 ∷ 1 ∷ 3 ∷ []) (1 ∷ 3 ∷ 3 ∷ 0 ∷ 1 ∷ 2 ∷ []) (0 ∷ 1 ∷ 1 ∷ 2 ∷ [])
 
--- T=1, N=1, rule 1={2}: a member equal to T+N
+-- T=1, N=1, and one rule, whose member 2 is no symbol: it equals T+N (I3, G1)
 abbrev pub strange_member : List ℕ
 strange_member = image_bytes (1 ∷ 1 ∷ 1 ∷ []) (1 ∷ 1 ∷ 1 ∷ 2 ∷ []) []
 
--- The rows marked p, in the order of document 01.
+-- The rows, each with what is said of it.
 unfoldable pub table : List Row
 table =
-    -- "G, `3 1 1 0 2`: as above; 10 sheet words give 24, 11 read it."
+    -- the plate: 11 sheet words do for its 11 entries, 10 do not
     plate lent
     ∷ refusing house (3 ∷ 1 ∷ 1 ∷ 0 ∷ 2 ∷ []) 10 24
     ∷ plate 11
-    -- "G, empty row: unread, 3 entries, 3 steps."
+    -- the house grammar has no empty row
     ∷ unreading house [] (said 3) (said 3)
-    -- "G, `0 1 2 1 3`: read. Unit before the serial's value is no breach."
+    -- the unit stands before the value of the serial number, which is in another rule: the order does not bind them (G4)
     ∷ reading house (0 ∷ 1 ∷ 2 ∷ 1 ∷ 3 ∷ []) unsaid unsaid
-    -- "G, `1 2 0 3 1`: read."; "G, `3 1 0 2 1`: unread."
+    -- the label may stand behind the unit, but the unit not before the value of its rating
     ∷ reading house (1 ∷ 2 ∷ 0 ∷ 3 ∷ 1 ∷ []) unsaid unsaid
     ∷ unreading house (3 ∷ 1 ∷ 0 ∷ 2 ∷ 1 ∷ []) unsaid unsaid
-    -- "T=1, N=1, rule 1={}: empty row read, 1 entry, 1 step."
+    -- a rule with no members reads the empty row
     ∷ reading empty_rule [] (said 1) (said 1)
-    -- "Only rule 1={1}: empty row unread, 1 entry, 2 steps."
+    -- a symbol that is its own only member reads nothing: the second step predicts what the first began with
     ∷ unreading own_member [] (said 1) (said 2)
-    -- "Only rule 1={0,0}: `0` unread, 2 and 2; `0 0` read, 3 and 3; `0 0 0` unread, 3 and 3."
+    -- of two equal members the first is found first, so no list has two entries (S7)
     ∷ unreading two_equals (0 ∷ []) (said 2) (said 2)
     ∷ reading two_equals (0 ∷ 0 ∷ []) (said 3) (said 3)
     ∷ unreading two_equals (0 ∷ 0 ∷ 0 ∷ []) (said 3) (said 3)
-    -- "Rule 2={0,1}, 0 before 1: `0 1` read; `1 0` unread, 1 and 1."
+    -- the order lets one arrangement through
     ∷ reading ordered (0 ∷ 1 ∷ []) unsaid unsaid
     ∷ unreading ordered (1 ∷ 0 ∷ []) (said 1) (said 1)
-    -- "Order 0<1, 1<2 only: 14. A member equal to T+N: 12."
+    -- an order that is not closed, and a member that is no symbol
     ∷ refusing unclosed [] lent 14
     ∷ refusing strange_member [] lent 12
     ∷ []

@@ -37,7 +37,7 @@ house_meant = (Image.house_admitted, Image.house_means)
 pub language_by_trees : LanguageByTrees
 language_by_trees g row is_row = Standing.language_tree is_row
 
--- ---- the work sheet
+-- ---- the sheet
 
 pub theorem_7 : Theorem7
 theorem_7 g row j e is = Standing.theorem_7 is.order

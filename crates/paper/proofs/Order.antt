@@ -137,7 +137,7 @@ pairs_step symbols least a b s p q f ih =
     up zero (suc j) l m = ih.least_is j (omega (arith, length-map (pairs_of s) pair_key))
     up (suc i) (suc j) l m = ih.ascending.ascend i j (omega arith) (omega arith)
 
--- 13 is not the answer: the order body is as 01 says
+-- 13 is not the answer: the order body is right (I4)
 pub pairs_right : (symbols k least : ℕ) (s : List ℕ) → pair_fault symbols k least s ≡ None → RightPairs symbols least s
 unfolding pair_fault
 pairs_right symbols k least [] h = pairs_none symbols least

@@ -103,7 +103,7 @@ all_below_lem limit (a ∷ s) h (suc k) l = let b = simp and-eq-true_iff at h in
 pub members_count : (r : List ℕ) → record_size r ≤ length r → length (rule_of r).members ≡ byte r 1
 members_count r h = length-take-le (byte r 1) (drop 2 r) (omega (arith, length-drop 2 r))
 
--- What 01 says of a rule.
+-- What every rule has (G2, I3).
 pub record RightRule (terminals symbols : ℕ) (rule : Rule) : Type 0 where
   pub left_above : terminals ≤ rule.left
   pub left_below : rule.left < symbols

@@ -1,4 +1,4 @@
--- How many entries a sheet has at the most, and how many steps: the two bounds of document 01, "The work sheet".
+-- How many entries a sheet has at the most, and how many steps: the two bounds of S6.
 -- Assumes nothing.
 use mathlib.Core.Path.{◌≡◌, refl, sym, ◌∙◌, ap}
 use mathlib.Core.Bool.{true}
@@ -95,7 +95,7 @@ module _ {g : Grammar} {row : List ℕ} {sheet : Sheet} (is : IsSheet g row shee
   sum_lists f bound h =
       omega (arith, sum_places f [] sheet, ap (λ n. sum_below n (λ j. f (list_at sheet j))) is.lists, sum_below_le (suc (length row)) (λ j. f (list_at sheet j)) bound (λ j l. h j))
 
-  -- 01: "Entries K are at most D(n+1)(n+2)/2."
+  -- the bound on entries (S6)
   pub entries_bound_lem : entries sheet ≤ entries_bound g (length row)
   unfolding entries triangle
   entries_bound_lem =
@@ -158,7 +158,7 @@ module _ {g : Grammar} {row : List ℕ} {sheet : Sheet} (is : IsSheet g row shee
         sum_below_mul (rule_count g * rests g) (suc (length row)) (λ j. triangle (suc j)),
       )
 
-  -- 01: "Steps are at most R + K + K·R + R·D·(n+1)(n+2)(n+3)/6."
+  -- the bound on steps (S6)
   pub steps_bound_lem : steps g row sheet ≤ steps_bound g (length row) (entries sheet)
   unfolding steps steps_bound
   steps_bound_lem = grind (arith, start_few, scan_few, predict_few, complete_few, complete_bound_exact)

@@ -1,4 +1,4 @@
--- 000, theorem 7, in the words of document 01: the steps find an entry exactly if it stands. And a row is in the language exactly if it has a tree.
+-- Shieber, theorem 7, with derivation by rewriting, as S3 has it: the steps find an entry exactly if it stands. And a row is in the language exactly if it has a tree.
 -- Assumes nothing.
 use mathlib.Core.Logic.{◌↔◌}
 use mathlib.Core.List.{List}
@@ -25,7 +25,7 @@ module _ {g : Grammar} {row : List ℕ} where
   pub stands_by_trees : {j : ℕ} {e : Entry} → Stands g row j e ↔ StandsByTrees g row j e
   stands_by_trees = (stands_trees, trees_stand)
 
-  -- 000, theorem 7: the steps find exactly the entries that stand
+  -- Shieber, theorem 7: the steps find exactly the entries that stand
   pub theorem_7 : {j : ℕ} {e : Entry} → StrictPartialOrder g.precedes → Found g row j e ↔ Stands g row j e
   theorem_7 order = (λ f. trees_stand (found_stands order f), λ s. stands_found order (stands_trees s))
 

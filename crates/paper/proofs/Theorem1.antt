@@ -1,4 +1,4 @@
--- The sheet exists, and 000's theorem 1: a row has a top exactly if it is in the language.
+-- The sheet exists, and a row has a top exactly if it is in the language (Shieber, theorem 1).
 -- Assumes nothing.
 use mathlib.Core.Path.{◌≡◌, refl, sym, subst₂}
 use mathlib.Core.Logic.{◌↔◌}
@@ -70,7 +70,7 @@ module _ {g : Grammar} {row : List ℕ} where
   tree_top is is_row (Tree.token {i = i} l e) p q r = grind arith
   tree_top is is_row (Tree.node {s = s} h l e a c parts) p q r = grind (arith, whole_stands, top_is)
 
-  -- 000, theorem 1: the last list has a top exactly if the row is in the language
+  -- Shieber, theorem 1: the last list has a top exactly if the row is in the language
   pub theorem_1 : {sheet : Sheet} → IsGrammar g → IsRow g row → IsSheet g row sheet → (1 ≤ tops g row sheet) ↔ InLanguage g row
   unfolding tops
   theorem_1 {sheet} is is_row sheet_is = (to, from)

@@ -1,4 +1,4 @@
--- 000, theorem 7, over trees: the steps find an entry exactly if it stands.
+-- Shieber, theorem 7, over trees: the steps find an entry exactly if it stands (S3).
 -- Assumes nothing.
 use mathlib.Core.Path.{◌≡◌, refl, sym, ◌∙◌, ap}
 use mathlib.Core.Bool.{true}
@@ -132,7 +132,7 @@ completed : {g : Grammar} {row : List ℕ} {j : ℕ} {e f : Entry} → StrictPar
     → finished f ≡ true → may_take g (left g f.rule) e.rest ≡ true → StandsByTrees g row j (taking (left g f.rule) e)
 completed {f = f} o s t z m = taking_stands o s m (finished_tree t (finished_rest f z)) t.origin_le t.list_le
 
--- 000, theorem 7, "only if": what the steps find stands
+-- Shieber, theorem 7, one way: what the steps find stands
 pub found_stands : {g : Grammar} {row : List ℕ} {j : ℕ} {e : Entry} → StrictPartialOrder g.precedes → Found g row j e → StandsByTrees g row j e
 found_stands o (start h p q) = started o h p q
 found_stands o (scan f p m) = scanned o (found_stands o f) p m
@@ -204,7 +204,7 @@ sought_found o (below n s t b u r c ps) h p q = sought_predicts o n s t r c ps (
 same_rest : {g : Grammar} {row : List ℕ} {j : ℕ} (e : Entry) {s : List ℕ} → e.rest ≡ s → Found g row j (record { rule = e.rule; origin = e.origin; rest = s }) → Found g row j e
 same_rest {g} {row} {j} e z f = grind arith
 
--- 000, theorem 7, "if": what stands, the steps find
+-- Shieber, theorem 7, the other way: what stands, the steps find
 pub stands_found : {g : Grammar} {row : List ℕ} {j : ℕ} {e : Entry} → StrictPartialOrder g.precedes → StandsByTrees g row j e → Found g row j e
 stands_found {g} {row} {j} {e} o s =
     let r : Arrangement (s.found ++ s.ahead) (members g e.rule) = arranged_trans (arranged_append (arranged_refl s.found) s.ahead_is) s.found_are in

@@ -74,7 +74,7 @@ rest_of_minus s found = rest_of_mask s (listed_minus s found)
 ones_bit : (b n : ℕ) → b ≤ 1 → ones (b + 2 * n) ≡ b + ones n
 ones_bit b n l = grind (arith, ones_step)
 
--- 01: "how many are left is the number of ones in it"
+-- the mask of a rest has a one for each member left (S7)
 pub ones_mask : (s : List ℕ) {r : List ℕ} → Listed r s → ones (mask s r) ≡ length r
 unfolding mask ones ones_in
 ones_mask [] m = ap length (sym (listed_nil m))

@@ -1,4 +1,4 @@
--- The sheet as a total function of grammar and row: 000, section 5, rules 1 to 6, each list closed by rounds.
+-- The sheet as a total function of grammar and row: the steps (S5; Shieber, section 5) taken in rounds until a list has nothing new.
 -- Assumes nothing.
 use Rattle.std.specs.Prelude.{◌≡◌, true, false, cond, ℕ, zero, suc, ◌*◌, ◌<◌, eqb, ltb, length, get_or}
 use mathlib.Core.List.{List, [], ◌∷◌, ◌++◌, Memᴰ, map, flat_map}
@@ -13,6 +13,7 @@ unfoldable pub insert {ℓ} : {A : Type ℓ} → (A → ℕ) → A → List A �
 insert key x [] = x ∷ []
 insert key x (y ∷ s) = cond (ltb (key x) (key y)) (x ∷ y ∷ s) (y ∷ cond (eqb (key x) (key y)) s (insert key x s))
 
+-- several at their places, one after another
 unfoldable pub insert_all {ℓ} : {A : Type ℓ} → (A → ℕ) → List A → List A → List A
 insert_all key [] s = s
 insert_all key (x ∷ more) s = insert_all key more (insert key x s)
@@ -29,20 +30,20 @@ unfoldable pub below : ℕ → List ℕ
 below zero = []
 below (suc n) = n ∷ below n
 
--- what begins list j: the rules of the start symbol, or what token j lets be taken on the list before
+-- what list 0 begins with: the rules of the start symbol; and a later list: the entries of the list before with the token between them found (S5: start, scan)
 unfoldable pub seeds : Grammar → List ℕ → Sheet → ℕ → List Entry
 seeds g row lists zero = map (λ h. fresh g h 0) (keep (λ h. eqb (left g h) g.start) (below (rule_count g)))
 seeds g row lists (suc j) = map (taking (get_or row j 0)) (waiting g (get_or row j 0) (list_at lists j))
 
--- an entry on list j looks for the rules whose left symbol may be taken
+-- what an entry on list j predicts: the rules whose left symbol may be taken from it (S5)
 unfoldable pub predicted : Grammar → ℕ → Entry → List Entry
 predicted g j e = map (λ h. fresh g h j) (keep (λ h. may_take g (left g h) e.rest) (below (rule_count g)))
 
--- a finished entry is taken by those that wait for its left symbol on the list of its origin
+-- what a finished entry completes: those that wait for its left symbol on the list of its origin (S5)
 unfoldable pub completed : Grammar → Sheet → Entry → List Entry
 completed g lists f = cond (finished f) (map (taking (left g f.rule)) (waiting g (left g f.rule) (list_at lists f.origin))) []
 
--- all that the entries of list j give on list j; lists 0 to j - 1 are done
+-- all that the entries of list j predict and complete; lists 0 to j - 1 are done
 unfoldable pub consequences : Grammar → ℕ → Sheet → List Entry → List Entry
 consequences g j lists list = flat_map (λ e. predicted g j e ++ completed g (lists ++ (list ∷ [])) e) list
 
@@ -55,11 +56,11 @@ unfoldable pub first_lists : Grammar → List ℕ → ℕ → Sheet
 first_lists g row zero = []
 first_lists g row (suc m) = let lists = first_lists g row m in lists ++ (next_list g row m lists ∷ [])
 
--- 01, "The work sheet": lists 0 to n
+-- the whole sheet, lists 0 to n (S1)
 unfoldable pub sheet_of : Grammar → List ℕ → Sheet
 sheet_of g row = first_lists g row (suc (length row))
 
--- Lists 0 to n on which no step finds anything new.
+-- The lists lack nothing that a step leads to (S5).
 pub record IsClosed (g : Grammar) (row : List ℕ) (sheet : Sheet) : Type 0 where
   pub start : (h : ℕ) → h < rule_count g → left g h ≡ g.start → Memᴰ (fresh g h 0) (list_at sheet 0)
   pub scan : (j : ℕ) (e : Entry) → Memᴰ e (list_at sheet j) → j < length row → may_take g (get_or row j 0) e.rest ≡ true

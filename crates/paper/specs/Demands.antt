@@ -1,4 +1,4 @@
--- What is proved of the definitions, as statements, in the order of document 01. Each has its proof in proofs/Demands.antt.
+-- What is proved of the definitions, as statements. Each has its proof in proofs/Demands.antt.
 -- Assumes nothing.
 use Rattle.std.specs.Prelude.{Option, None, Result, ◌≡◌, ◌↔◌, true, ℕ, ◌≤◌, ◌<◌, length, get_or}
 use mathlib.Core.List.{List, [], ◌∷◌, Memᴰ}
@@ -20,7 +20,7 @@ use Rattle.paper.specs.declared.Reading.{Reading}
 
 -- ---- the image
 
--- An image is admitted exactly if it is what is written of some grammar: this says what refusals 10 to 14 mean without their tests.
+-- An image is admitted exactly if it is what is written of some grammar (I1 to I4): this says what refusals 10 to 14 mean without their tests.
 abbrev pub AdmittedIsWritten : Type 0
 AdmittedIsWritten = (image : List ℕ) → AreBytes image → (image_fault image ≡ None) ↔ IsWritten image
 
@@ -28,16 +28,17 @@ AdmittedIsWritten = (image : List ℕ) → AreBytes image → (image_fault image
 abbrev pub AdmittedIsGrammar : Type 0
 AdmittedIsGrammar = (image : List ℕ) → image_fault image ≡ None → IsGrammar (grammar_of image)
 
--- A row that is not refused is a short row of terminals.
+-- The row is a short row of terminals of the grammar that the image means.
 pub record IsFit (image row : List ℕ) : Type 0 where
   pub is_grammar : IsGrammar (grammar_of image)
   pub short : length row ≤ 64
   pub is_row : IsRow (grammar_of image) row
 
+-- A row that is not refused (10 to 14, 20, 21) is a short row of terminals.
 abbrev pub RowFits : Type 0
 RowFits = (image row : List ℕ) → row_refusal image row ≡ None → IsFit image row
 
--- 01: "4 plate = {5,6}, 5 rating = {0,1,2}, 6 serial = {1,3}; 1 precedes 2."
+-- The grammar is the house grammar (I5).
 pub record IsHouse (g : Grammar) : Type 0 where
   pub terminals_are : g.terminals ≡ 4
   pub nonterminals_are : g.nonterminals ≡ 3
@@ -46,27 +47,27 @@ pub record IsHouse (g : Grammar) : Type 0 where
   pub value_before_unit : g.precedes 1 2 ≡ true
   pub no_other : (a b : ℕ) → g.precedes a b ≡ true → (a ≡ 1) × (b ≡ 2)
 
--- The house image is admitted, and means the house grammar.
+-- The house image is admitted, and means the house grammar (I5).
 abbrev pub HouseMeant : Type 0
 HouseMeant = (image_fault house ≡ None) × IsHouse (grammar_of house)
 
 -- ---- derivation
 
--- Rewriting and trees agree: the start symbol derives a row of terminals exactly if there is a tree of it over the whole row.
+-- Rewriting and trees agree: the start symbol derives a row of terminals exactly if there is a tree of it over the whole row (G6).
 abbrev pub LanguageByTrees : Type 0
 LanguageByTrees = (g : Grammar) (row : List ℕ) → IsRow g row → InLanguage g row ↔ Tree g row g.start 0 (length row)
 
--- ---- the work sheet
+-- ---- the sheet
 
--- 01: an entry "stands on list j exactly if ..": 000, theorem 7. The steps find on each list exactly the entries that stand on it.
+-- The steps find on each list exactly the entries that stand on it (S3, S5; Shieber, theorem 7).
 abbrev pub Theorem7 : Type 0
 Theorem7 = (g : Grammar) (row : List ℕ) (j : ℕ) (e : Entry) → IsGrammar g → Found g row j e ↔ Stands g row j e
 
--- 000, theorem 1: the last list has a finished entry of the start symbol with origin 0 exactly if the row is in the language.
+-- A row has a top exactly if it is in the language (S9, G6; Shieber, theorem 1).
 abbrev pub Theorem1 : Type 0
 Theorem1 = (g : Grammar) (row : List ℕ) (sheet : Sheet) → IsGrammar g → IsRow g row → IsSheet g row sheet → (1 ≤ tops g row sheet) ↔ InLanguage g row
 
--- 01: "For n tokens (0 to 64) there are lists 0 to n." Every row of at most 64 tokens has a sheet, and it can be computed.
+-- Every row of at most 64 tokens has a sheet, and it can be computed (S1, S3).
 abbrev pub SheetExists : Type 0
 SheetExists = (g : Grammar) (row : List ℕ) → IsGrammar g → length row ≤ 64 → IsSheet g row (sheet_of g row)
 
@@ -74,11 +75,11 @@ SheetExists = (g : Grammar) (row : List ℕ) → IsGrammar g → length row ≤ 
 abbrev pub SheetUnique : Type 0
 SheetUnique = (g : Grammar) (row : List ℕ) (s t : Sheet) → IsSheet g row s → IsSheet g row t → s ≡ t
 
--- 01: "an entry is one word": an entry that stands can be read back from its word.
+-- An entry that stands can be read back from its word (S7).
 abbrev pub WordReadBack : Type 0
 WordReadBack = (g : Grammar) (row : List ℕ) (j : ℕ) (e : Entry) → IsGrammar g → length row ≤ 64 → Stands g row j e → entry_of g (word g e) ≡ e
 
--- 01: "how many are left is the number of ones in it"
+-- The byte of an entry that stands has a one for each member left (S7).
 abbrev pub OnesLeft : Type 0
 OnesLeft = (g : Grammar) (row : List ℕ) (j : ℕ) (e : Entry) → Stands g row j e → ones (mask (members g e.rule) e.rest) ≡ length e.rest
 
@@ -90,37 +91,37 @@ pub record ListedOnce (members : List ℕ) : Type 0 where
   pub all : (t : List ℕ) → ((a : ℕ) → count a t ≤ count a members) → (r : List ℕ) × Memᴰ r (sub_multisets members) × Arrangement t r
   pub once : (i j : ℕ) → i < j → j < length (sub_multisets members) → Arrangement (get_or (sub_multisets members) i []) (get_or (sub_multisets members) j []) → ⊥
 
--- 01: "D the sum over rules of their distinct sub-multisets": what D counts.
+-- What D counts for a rule is its sub-multisets, each once (S6).
 abbrev pub DistinctSubMultisets : Type 0
 DistinctSubMultisets = (members : List ℕ) → ListedOnce members
 
--- 01: "Entries K are at most D(n+1)(n+2)/2."
+-- No sheet has more entries than the bound (S6).
 abbrev pub EntriesBound : Type 0
 EntriesBound = (g : Grammar) (row : List ℕ) (sheet : Sheet) → IsSheet g row sheet → entries sheet ≤ entries_bound g (length row)
 
--- 01: "Steps are at most R + K + K·R + R·D·(n+1)(n+2)(n+3)/6."
+-- No sheet takes more steps than the bound (S6).
 abbrev pub StepsBound : Type 0
 StepsBound = (g : Grammar) (row : List ℕ) (sheet : Sheet) → IsSheet g row sheet → steps g row sheet ≤ steps_bound g (length row) (entries sheet)
 
--- The same from the grammar and the number of tokens alone, before there is a sheet.
+-- The same from the grammar and the number of tokens alone, before there is a sheet (R6).
 abbrev pub StepsPrice : Type 0
 StepsPrice = (g : Grammar) (row : List ℕ) (sheet : Sheet) → IsSheet g row sheet → steps g row sheet ≤ steps_bound g (length row) (entries_bound g (length row))
 
 -- ---- derivation lines
 
--- 01: "Every row read has valid lines."
+-- Every row of the language has valid lines (L4).
 abbrev pub LinesExist : Type 0
 LinesExist = (g : Grammar) (row : List ℕ) → IsGrammar g → InLanguage g row → (lines : List ℕ) × Valid g row lines
 
--- Only rows of the language have valid lines.
+-- Only rows of the language have valid lines (L4).
 abbrev pub LinesSound : Type 0
 LinesSound = (g : Grammar) (row lines : List ℕ) → IsRow g row → Valid g row lines → InLanguage g row
 
--- 01: "At most 3nN lines are needed, N if n = 0 (the bound L)": no valid lines are more.
+-- No valid lines are more than L (L4).
 abbrev pub LinesBound : Type 0
 LinesBound = (g : Grammar) (row lines : List ℕ) → IsGrammar g → Valid g row lines → line_count lines ≤ lines_bound g (length row)
 
--- ---- 01: "that two permitted outcomes are equal is itself proved"
+-- ---- two permitted outcomes are equal
 
 -- The checker's judgement of lines is one.
 abbrev pub JudgedUnique : Type 0
@@ -135,7 +136,7 @@ abbrev pub BracketingUnique : Type 0
 BracketingUnique = (image row lines entry : List ℕ) (x y : Result ℕ Refusal) (s t : List ℕ) → BracketingOutcome image row lines entry x s → BracketingOutcome image row lines entry y t
     → (x ≡ y) × (s ≡ t)
 
--- The view of line k is one, and so is the refusal whose number its companion gives.
+-- The view of line k is one, and so is the refusal whose number the call beside it gives.
 abbrev pub ViewUnique : Type 0
 ViewUnique = (image row lines : List ℕ) (k : ℕ) (x y : Option Refusal) (s t : List ℕ) → ViewOutcome image row lines k x s → ViewOutcome image row lines k y t → (x ≡ y) × (s ≡ t)
 

@@ -1,15 +1,14 @@
--- Grammars: document 01, "Grammar and derivation", and 000's section 4.
+-- Grammars (docs/RULES.md, "Grammar and derivation"; Shieber, section 4).
 -- Assumes nothing.
 use Rattle.std.specs.Prelude.{◌≡◌, Bool, true, false, List, [], ℕ, ◌+◌, ◌≤◌, ◌<◌, length, get_or}
 use Rattle.paper.specs.Multiset.{Ascending}
 
--- 01: "A rule is a nonterminal and a multiset of 0 to 8 members."
+-- a rule: its left symbol, and its members, a multiset written as a list (G2)
 pub record Rule : Type 0 where
   pub left : ℕ
   pub members : List ℕ
 
--- 000, section 4: ⟨N, Σ, ID, LP, S⟩. 01: "Symbols are numbered. Terminals are 0 to T-1, nonterminals T to T+N-1."
--- `precedes a b` says that a must precede b.
+-- a grammar: T, N, the start symbol, the rules and the order (G1 to G3; Shieber, section 4); `precedes a b` says that a must precede b
 pub record Grammar : Type 0 where
   pub terminals : ℕ
   pub nonterminals : ℕ
@@ -17,11 +16,11 @@ pub record Grammar : Type 0 where
   pub rules : List Rule
   pub precedes : ℕ → ℕ → Bool
 
--- how many symbols there are: T+N
+-- how many symbols there are: T+N (G1)
 abbrev pub symbols : Grammar → ℕ
 symbols g = g.terminals + g.nonterminals
 
--- R, the number of rules
+-- R, the number of rules (S6)
 abbrev pub rule_count : Grammar → ℕ
 rule_count g = length g.rules
 
@@ -37,19 +36,21 @@ left g h = (rule_at g h).left
 abbrev pub members : Grammar → ℕ → List ℕ
 members g h = (rule_at g h).members
 
+-- a terminal: a number below T (G1)
 pub record IsTerminal (g : Grammar) (a : ℕ) : Type 0 where
   pub below : a < g.terminals
 
+-- a nonterminal: a number from T on and below T+N (G1)
 pub record IsNonterminal (g : Grammar) (a : ℕ) : Type 0 where
   pub above : g.terminals ≤ a
   pub below : a < symbols g
 
--- 01: "Order is a strict partial order on all symbols." 000: irreflexive, transitive, and so asymmetric.
+-- a strict partial order: irreflexive and transitive, and so asymmetric too (G3)
 pub record StrictPartialOrder (precedes : ℕ → ℕ → Bool) : Type 0 where
   pub irreflexive : (a : ℕ) → precedes a a ≡ false
   pub transitive : (a b c : ℕ) → precedes a b ≡ true → precedes b c ≡ true → precedes a c ≡ true
 
--- 01, "Grammar and derivation": what holds of every grammar that is admitted
+-- what holds of every grammar that is admitted (G1 to G3, with the members in the order of I3)
 pub record IsGrammar (g : Grammar) : Type 0 where
   pub a_terminal : 1 ≤ g.terminals
   pub a_nonterminal : 1 ≤ g.nonterminals
@@ -63,6 +64,6 @@ pub record IsGrammar (g : Grammar) : Type 0 where
   pub unlike : (h k : ℕ) → h < k → k < rule_count g → rule_at g h ≡ rule_at g k → ⊥
   pub order : StrictPartialOrder g.precedes
 
--- every token of the row is a terminal
+-- every token of the row is a terminal (G6)
 pub record IsRow (g : Grammar) (row : List ℕ) : Type 0 where
   pub tokens_are : (k : ℕ) → k < length row → IsTerminal g (get_or row k 0)

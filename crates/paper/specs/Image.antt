@@ -1,4 +1,4 @@
--- The grammar image: document 01, "The grammar image", and refusals 10 to 14 of its table, each with the place of the first fault.
+-- The image of a grammar (docs/RULES.md, "The image"): refusals 10 to 14, each with the place of its first fault, and the grammar that an image means.
 -- Assumes nothing.
 use Rattle.std.specs.Prelude.{Option, Some, None, Bool, true, false, not, ◌&&◌, ◌||◌, cond, List, [], ◌∷◌, ℕ, zero, suc, ◌+◌, ◌*◌, eqb, leb, ltb, length, get_or, take, drop}
 use Rattle.paper.specs.Grammar.{Rule, Grammar}
@@ -14,26 +14,27 @@ every (t ∷ tests) = t && every tests
 abbrev pub byte : List ℕ → ℕ → ℕ
 byte b k = get_or b k 0
 
--- 01: "each of these two 2 bytes, high byte first"
+-- the number that two bytes are, from byte k on (I1)
 abbrev pub two_bytes : List ℕ → ℕ → ℕ
 two_bytes b k = byte b k * 256 + byte b (k + 1)
 
--- 01: "Three entries of 5 bytes follow: kind, offset and length"; entries are numbered 0, 1, 2
+-- the kind that the contents give for body k; bodies are numbered 0, 1, 2 (I1)
 abbrev pub kind : List ℕ → ℕ → ℕ
 kind b k = byte b (2 + 5 * k)
 
+-- where body k starts (I1)
 abbrev pub offset : List ℕ → ℕ → ℕ
 offset b k = two_bytes b (3 + 5 * k)
 
+-- how many bytes body k has (I1)
 abbrev pub extent : List ℕ → ℕ → ℕ
 extent b k = two_bytes b (5 + 5 * k)
 
--- the body that entry k tells of
+-- the bytes of body k (I1)
 abbrev pub body : List ℕ → ℕ → List ℕ
 body b k = take (extent b k) (drop (offset b k) b)
 
--- 01: "Byte 0 is 1, the form. Byte 1 is 3. .. Kinds are 1, 2, 3 in that order. The first body starts at 17, each next one where the last ended,
--- and the third ends at the image's end."
+-- the contents are right, and the bodies fill what follows them (I1)
 unfoldable pub contents_right : List ℕ → Bool
 contents_right b =
     every
@@ -49,7 +50,7 @@ contents_right b =
     ∷ eqb (length b) (offset b 2 + extent b 2)
     ∷ [])
 
--- 01: "Symbols, exactly 3 bytes: T, N, start symbol (a nonterminal)."; "T and N are each at least 1, and T+N is at most 64."
+-- the symbols body has its three bytes, and they keep to the limits (I2, G1)
 unfoldable pub symbols_right : List ℕ → Bool
 symbols_right s =
     every
@@ -66,29 +67,31 @@ unfoldable pub all_below : ℕ → List ℕ → Bool
 all_below limit [] = true
 all_below limit (a ∷ s) = ltb a limit && all_below limit s
 
--- 01: "the members ascending (equals allowed)", the first no less than least
+-- no number is less than the one before it, nor the first less than `least` (I3)
 unfoldable pub ascends : ℕ → List ℕ → Bool
 ascends least [] = true
 ascends least (a ∷ s) = leb least a && ascends a s
 
--- 01: "compared byte by byte": is the first record before the second?
+-- is the first record before the second? The first byte that differs decides, or the end of one (I3)
 unfoldable pub record_before : List ℕ → List ℕ → Bool
 record_before [] [] = false
 record_before [] (b ∷ t) = true
 record_before (a ∷ s) [] = false
 record_before (a ∷ s) (b ∷ t) = ltb a b || (eqb a b && record_before s t)
 
--- 01: "per rule the left symbol, the number of members, the members": the record at the front of these bytes
+-- how many bytes the record at the front of these bytes has (I3)
 abbrev pub record_size : List ℕ → ℕ
 record_size r = 2 + byte r 1
 
+-- that record (I3)
 abbrev pub record_of : List ℕ → List ℕ
 record_of r = take (record_size r) r
 
+-- the rule that it means (I3)
 abbrev pub rule_of : List ℕ → Rule
 rule_of r = record { left = byte r 0; members = take (byte r 1) (drop 2 r) }
 
--- a whole record stands there, its left symbol is a nonterminal, it has at most 8 members, these ascend and are symbols
+-- a whole record stands at the front, its left symbol is a nonterminal, it has at most 8 members, these ascend and are symbols (I3, G2)
 unfoldable pub record_right : ℕ → ℕ → List ℕ → Bool
 record_right terminals symbols r =
     every
@@ -101,52 +104,55 @@ record_right terminals symbols r =
     ∷ all_below symbols (rule_of r).members
     ∷ [])
 
--- The number of the first rule at fault, if one is, among `more` records, the first of which is rule k and must come after the record `last`; bytes left over give the count of rules
+-- The number of the first rule at fault, if one is, among `more` records, the first of which is rule k and must come after the record `last`.
+-- Bytes left over give the count of rules (I3).
 unfoldable pub record_fault : ℕ → ℕ → ℕ → ℕ → List ℕ → List ℕ → Option ℕ
 record_fault terminals symbols zero k last r = cond (eqb (length r) 0) None (Some k)
 record_fault terminals symbols (suc more) k last r =
     elim (record_right terminals symbols r && record_before last (record_of r))
     [ true ↦ record_fault terminals symbols more (suc k) (record_of r) (drop (record_size r) r) | false ↦ Some k ]
 
--- 01: "Rules: a count, then ..", "Rules ascend strictly", "The body is filled exactly.", "There are 0 to 96 rules"
+-- the number of the first rule at fault in the rules body, if one is; a count that is missing or above 96 is a fault at rule 0 (I3, G2)
 unfoldable pub rules_fault : ℕ → ℕ → List ℕ → Option ℕ
 rules_fault terminals symbols r =
     elim (leb 1 (length r) && leb (byte r 0) 96) [ true ↦ record_fault terminals symbols (byte r 0) 0 [] (drop 1 r) | false ↦ Some 0 ]
 
--- the rules that so many records mean
+-- the rules that so many records mean (I3)
 unfoldable pub rules_of : ℕ → List ℕ → List Rule
 rules_of zero r = []
 rules_of (suc more) r = rule_of r ∷ rules_of more (drop (record_size r) r)
 
--- 01: "Order: pairs of bytes, earlier symbol first"
+-- a pair of the order (I4)
 pub record Pair : Type 0 where
   pub earlier : ℕ
   pub later : ℕ
 
+-- the pairs that these bytes are, two bytes each; an odd byte at the end is left out (I4)
 unfoldable pub pairs_of : List ℕ → List Pair
 pairs_of [] = []
 pairs_of (a ∷ []) = []
 pairs_of (a ∷ b ∷ s) = record { earlier = a; later = b } ∷ pairs_of s
 
--- 01, 13: "odd length, symbol out of range, not ascending": the first pair at fault, the first here being pair k;
--- as a number of two bytes it is at least `least`, which is one more than the pair before it
+-- the number of the first pair, if one is, that is cut short, names no symbol or does not ascend; the first here is pair k (I4, refusal 13).
+-- As a number of two bytes it is at least `least`, which is one more than the pair before it.
 unfoldable pub pair_fault : ℕ → ℕ → ℕ → List ℕ → Option ℕ
 pair_fault symbols k least [] = None
 pair_fault symbols k least (a ∷ []) = Some k
 pair_fault symbols k least (a ∷ b ∷ s) =
     elim (ltb a symbols && (ltb b symbols && leb least (a * 256 + b))) [ true ↦ pair_fault symbols (suc k) (suc (a * 256 + b)) s | false ↦ Some k ]
 
--- is it written that a precedes b?
+-- is it written that a precedes b? (I4)
 unfoldable pub paired : List Pair → ℕ → ℕ → Bool
 paired [] a b = false
 paired (p ∷ pairs) a b = (eqb p.earlier a && eqb p.later b) || paired pairs a b
 
--- for each of these pairs that starts with b: a precedes its later symbol
+-- for each of these pairs that starts with b: a precedes its later symbol (G3)
 unfoldable pub chained : List Pair → ℕ → ℕ → List Pair → Bool
 chained pairs a b [] = true
 chained pairs a b (q ∷ more) = (not (eqb q.earlier b) || paired pairs a q.later) && chained pairs a b more
 
--- 01, 14: "a symbol before itself, or A<B and B<C without A<C": the first pair that is a self pair or starts a chain whose closing pair is missing
+-- the number of the first pair, if one is, that has one symbol twice, or begins a chain of two whose closing pair is missing (G3, refusal 14);
+-- the first here is pair k
 unfoldable pub closing_fault : List Pair → ℕ → List Pair → Option ℕ
 closing_fault pairs k [] = None
 closing_fault pairs k (p ∷ more) =
@@ -161,17 +167,19 @@ refuse why (Some k) next = Some (record { why = why; place = k })
 abbrev pub wrong_if : Bool → Option ℕ
 wrong_if right = cond right None (Some 0)
 
--- the numbers of an image
+-- T of an image (I2)
 abbrev pub image_terminals : List ℕ → ℕ
 image_terminals b = byte (body b 0) 0
 
+-- T+N of an image (I2)
 abbrev pub image_symbols : List ℕ → ℕ
 image_symbols b = byte (body b 0) 0 + byte (body b 0) 1
 
+-- the pairs of an image (I4)
 abbrev pub image_pairs : List ℕ → List Pair
 image_pairs b = pairs_of (body b 2)
 
--- 01, "What comes back", 10 to 14: the first that holds
+-- the first of 10 to 14 that holds, in the order of the table
 unfoldable pub image_fault : List ℕ → Option Fault
 image_fault b =
     refuse Refusal.Contents (wrong_if (contents_right b))
@@ -181,7 +189,7 @@ image_fault b =
     (refuse Refusal.Chain (closing_fault (image_pairs b) 0 (image_pairs b))
     None))))
 
--- the grammar that an admitted image means
+-- the grammar that an admitted image means (I2 to I4)
 unfoldable pub grammar_of : List ℕ → Grammar
 grammar_of b =
     record {
@@ -192,7 +200,7 @@ grammar_of b =
       precedes = paired (image_pairs b);
     }
 
--- 01: "The house grammar G is built into the program as a constant table of 36 bytes"
+-- the image of the house grammar (I5)
 abbrev pub house : List ℕ
 house =
     0x01 ∷ 0x03 ∷ 0x01 ∷ 0x00 ∷ 0x11 ∷ 0x00 ∷ 0x03 ∷ 0x02 ∷ 0x00 ∷ 0x14 ∷ 0x00 ∷ 0x0E ∷ 0x03 ∷ 0x00 ∷ 0x22 ∷ 0x00 ∷ 0x02 ∷ 0x04 ∷ 0x03 ∷ 0x04 ∷ 0x03 ∷ 0x04 ∷ 0x02 ∷ 0x05

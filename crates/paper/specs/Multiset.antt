@@ -12,7 +12,7 @@ unfoldable pub count : ℕ → List ℕ → ℕ
 count a [] = 0
 count a (b ∷ s) = bit (eqb a b) + count a s
 
--- 01, "arrangement": a sequence that holds each symbol as often as the multiset. The empty multiset has one, the empty one.
+-- the sequence has each symbol exactly as often as the multiset (G5)
 pub record Arrangement (sequence multiset : List ℕ) : Type 0 where
   pub counts : (a : ℕ) → count a sequence ≡ count a multiset
 
@@ -26,7 +26,7 @@ unfoldable pub without : ℕ → List ℕ → List ℕ
 without a [] = []
 without a (b ∷ s) = cond (eqb a b) s (b ∷ without a s)
 
--- 01, "Of equal members the first written is found first": the members less those found, in the order written
+-- the members less those found, in the order written; of equal members the first goes first (S7)
 unfoldable pub minus : List ℕ → List ℕ → List ℕ
 minus members [] = members
 minus members (a ∷ found) = minus (without a members) found
@@ -44,8 +44,8 @@ unfoldable pub keep {ℓ} : {A : Type ℓ} → (A → Bool) → List A → List 
 keep p [] = []
 keep p (x ∷ s) = cond (p x) (x ∷ keep p s) (keep p s)
 
--- 01, "distinct sub-multisets": each sub-multiset of the members once, as it stands when of equal members the first are missing first.
--- A first member is missing, or it is there and with it every later one equal to it.
+-- each sub-multiset of the members once: the rests that D counts (S6). Of equal members the first are missing first (S7):
+-- the first member is missing, or it is there and with it every later one equal to it.
 unfoldable pub sub_multisets : List ℕ → List (List ℕ)
 sub_multisets [] = [] ∷ []
 sub_multisets (a ∷ s) = sub_multisets s ++ map (a ∷◌) (keep (λ r. eqb (count a r) (count a s)) (sub_multisets s))

@@ -1,4 +1,4 @@
--- The places of the records in a rules body: where rule h is written.
+-- The places of the records in a rules body (I3): where rule h is written.
 -- Assumes nothing.
 use Rattle.std.specs.Prelude.{List, ℕ, zero, suc, ◌+◌, drop}
 use Rattle.paper.specs.Image.{record_size}

@@ -1,10 +1,10 @@
--- The refusals: document 01, "What comes back".
+-- The refusals (docs/RULES.md, "What comes back").
 -- Assumes nothing.
 use Rattle.std.specs.Prelude.{ℕ}
 use Rattle.paper.specs.declared.Refusal.{Refusal}
 use Rattle.paper.specs.declared.Refusal.TheVariants.{Contents, Symbols, Rules, Order, Chain, LongRow, StrangeToken, FewStarts, FewLines, FewWords, InvalidLines, LongBracket, NoLine}
 
--- the number of the table for each refusal
+-- the number that the table has for each refusal (R2)
 abbrev pub number_of : Refusal → ℕ
 number_of Contents = 10
 number_of Symbols = 11

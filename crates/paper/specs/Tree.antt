@@ -1,4 +1,4 @@
--- Derivation trees over a row: the form of a derivation that has a place for each part.
+-- Derivation trees over a row: derivation (G6) told by places, so that each part has a span. Demands.antt (LanguageByTrees) says that both agree.
 -- Assumes nothing.
 use Rattle.std.specs.Prelude.{◌≡◌, List, [], ◌∷◌, ◌++◌, ℕ, suc, ◌≤◌, ◌<◌, length, get_or}
 use Rattle.paper.specs.Multiset.{Arrangement}
@@ -16,7 +16,8 @@ mutual
     done : {i : ℕ} → i ≤ length row → Parts g row [] i i
     part : {a i k j : ℕ} {s : List ℕ} → Tree g row a i k → Parts g row s k j → Parts g row (a ∷ s) i j
 
--- The symbol a is looked for at place i: it is the start symbol at place 0, or it follows parts that read up to i in a rule whose left symbol is looked for.
+-- The symbol a is looked for at place i: it is the start symbol at place 0, or it follows parts that read up to i in a rule whose left symbol is looked for
+-- where these begin. This tells part (b) of S3 by trees.
 pub data Sought (g : Grammar) (row : List ℕ) : ℕ → ℕ → Type 0 where
   top : Sought g row g.start 0
   below : {a i k : ℕ} (h : ℕ) (s t : List ℕ) → h < rule_count g → Sought g row (left g h) i → Arrangement (s ++ (a ∷ t)) (members g h) → Acceptable g (s ++ (a ∷ t))

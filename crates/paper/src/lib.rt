@@ -1,23 +1,23 @@
 #![tactic(auto)]
-// The numbers that the paper keeps apart, and the answers of every public call.
+// The numbers that Shieber keeps apart, and the answers of every public call.
 
 pub mod laws;
 
 use thiserror::Error;
 
-/// The number of a rule: the paper's h.
+/// The number of a rule: Shieber's h (G2).
 #[derive(Clone, Copy, Debug, PartialEq, Eq, PartialOrd, Ord, Hash)]
 pub struct RuleNo(pub u8);
 
-/// The number of a symbol: the paper's A.
+/// The number of a symbol: Shieber's A (G1).
 #[derive(Clone, Copy, Debug, PartialEq, Eq, PartialOrd, Ord, Hash)]
 pub struct SymbolNo(pub u8);
 
-/// A place between tokens: the paper's i. Place 0 is before the first token.
+/// A place between tokens: Shieber's i. Place 0 is before the first token (S1).
 #[derive(Clone, Copy, Debug, PartialEq, Eq, PartialOrd, Ord, Hash)]
 pub struct Place(pub u8);
 
-/// Why a call is refused, in the order of the tests. Each has the number that programs print and that C gets.
+/// Why a call is refused, in the order of the tests (docs/RULES.md, "What comes back"). Each has the number that programs print and that C gets.
 #[derive(Clone, Copy, Debug, PartialEq, Eq, Hash, Error)]
 pub enum Refusal {
     #[error("the image is too short, or its contents are wrong")]
@@ -83,7 +83,7 @@ pub enum Reading {
     Unread(Counts),
 }
 
-/// What a grammar and a row length can cost at the most.
+/// What a grammar and a row length can cost at the most (R6).
 #[derive(Clone, Copy, Debug, PartialEq, Eq)]
 pub struct Bounds {
     pub rests: u64,

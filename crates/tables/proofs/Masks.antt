@@ -193,7 +193,7 @@ proper_exactly s m = (λ p. there p, λ x. rw x.1 (mask_proper s (minus s x.0)))
 pub proper_same : {s : List ℕ} {m n : ℕ} → Proper s m → Proper s n → rest_of s m ≡ rest_of s n → m ≡ n
 proper_same {s} p q e = sym (mask_rest_of p) ∙ (ap (mask s) e ∙ mask_rest_of q)
 
--- 01: "how many are left is the number of ones in it"
+-- the rest has as many members as the byte has ones (S7)
 pub rest_length : {s : List ℕ} {m : ℕ} → Proper s m → length (rest_of s m) ≡ ones m
 rest_length {s} {m} p = sym (ones_mask s (proper_listed p)) ∙ ap ones (mask_rest_of p)
 

@@ -7,6 +7,7 @@ use Rattle.paper.specs.declared.SymbolNo.{SymbolNo}
 use Rattle.tables.specs.declared.Row.{Row}
 use Rattle.tables.specs.Table.{Tabled, Ranked}
 
+-- the image is admitted (I1 to I4), and each field says what it means
 pub record IsAdmitted (image : List ℕ) (count : ℕ) (rows : List Row) (firsts ranks : List ℕ) (terminals nonterminals : ℕ) (start : SymbolNo) : Type 0 where
   pub admitted : image_fault image ≡ None
   pub is_grammar : IsGrammar (grammar_of image)

@@ -9,13 +9,13 @@ use Rattle.paper.specs.Entry.{Entry, may_take}
 use Rattle.paper.specs.Sheet.{mask, word, rest_of}
 use Rattle.tables.specs.Table.{bars_of}
 
--- The byte m tells a rest of the members s: it has a bit for each member only, and "Of equal members the first written is found first": where a member
--- is still to be found, so is every equal one behind it.
+-- The byte m tells a rest of the members s: it has bits for members only, and where a member is still to be found, so is every equal one
+-- behind it (S7).
 pub record Proper (s : List ℕ) (m : ℕ) : Type 0 where
   pub below : m < 2 ^ length s
   pub later : (i j : ℕ) → i < j → j < length s → get_or s i 0 ≡ get_or s j 0 → bit_at i m ≡ 1 → bit_at j m ≡ 1
 
--- Member k may be taken: it is still to be found, and none of the members that bar it is.
+-- Member k may be taken: it is still to be found, and none of the members that bar it is (S4, S7).
 pub record Takeable (g : Grammar) (s : List ℕ) (m k : ℕ) : Type 0 where
   pub place : k < length s
   pub is_left : bit_at k m ≡ 1
@@ -38,7 +38,7 @@ pub record TakenFrom (g : Grammar) (s : List ℕ) (a n m : ℕ) : Type 0 where
 abbrev pub entry_with : Grammar → ℕ → ℕ → ℕ → Entry
 entry_with g h i m = record { rule = h; origin = i; rest = rest_of (members g h) m }
 
--- The byte m is proper, and e is the entry that has it.
+-- The byte m is proper, and e is the entry that has it (S7).
 pub record HasByte (g : Grammar) (e : Entry) (m : ℕ) : Type 0 where
   pub proper : Proper (members g e.rule) m
   pub is_entry : entry_with g e.rule e.origin m ≡ e

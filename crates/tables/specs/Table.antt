@@ -6,13 +6,13 @@ use Rattle.paper.specs.Multiset.{bit}
 use Rattle.paper.specs.Grammar.{Grammar, rule_count, left, members, symbols}
 use Rattle.tables.specs.declared.Row.{Row}
 
--- The members that bar member k, a symbol a, as bits from member x on: those that must precede a, and the equal members before k
--- ("Of equal members the first written is found first").
+-- The members that bar member k, a symbol a, as bits from member x on: those that must precede a (S4), and the equal members before k,
+-- which are found before it (S7).
 unfoldable pub bar_bits : Grammar → ℕ → ℕ → ℕ → List ℕ → ℕ
 bar_bits g a k x [] = 0
 bar_bits g a k x (b ∷ later) = bit (g.precedes b a || (ltb x k && eqb b a)) + 2 * bar_bits g a k (suc x) later
 
--- the members of the list that bar member k
+-- the members of the list that bar member k, a bit for each (S4, S7)
 abbrev pub bars_of : Grammar → List ℕ → ℕ → ℕ
 bars_of g s k = bar_bits g (get_or s k 0) k 0 s
 
