@@ -5,6 +5,8 @@ pub mod laws;
 
 use thiserror::Error;
 
+// Three types of one shape: they are there to be told apart, and a generic one with a tag would be no plainer.
+
 /// The number of a rule: Shieber's h (G2).
 #[derive(Clone, Copy, Debug, PartialEq, Eq, PartialOrd, Ord, Hash)]
 pub struct RuleNo(pub u8);
