@@ -230,16 +230,16 @@ rest_nil {s} {m} p = (λ e. empty (rest_of s m) (rest_length p ∙ (zero_ones m)
 
 -- ## The byte of a fresh entry
 
-mask_all : (s : List ℕ) → mask s s ≡ 2 ^ length s - 1
+pub full_mask : (s : List ℕ) → mask s s ≡ 2 ^ length s - 1
 unfolding mask
-mask_all [] = refl
-mask_all (a ∷ s) = mask_present a s s refl ∙ omega (arith, mask_all s, pow-suc 2 (length s), pow_pos (length s))
+full_mask [] = refl
+full_mask (a ∷ s) = mask_present a s s refl ∙ omega (arith, full_mask s, pow-suc 2 (length s), pow_pos (length s))
 
 pub full_proper : (s : List ℕ) → Proper s (2 ^ length s - 1)
-full_proper s = rw (← mask_all s) (mask_proper s s)
+full_proper s = rw (← full_mask s) (mask_proper s s)
 
 pub full_rest : (s : List ℕ) → rest_of s (2 ^ length s - 1) ≡ s
-full_rest s = ap (rest_of s) (sym (mask_all s)) ∙ rest_of_mask s (listed_all s)
+full_rest s = ap (rest_of s) (sym (full_mask s)) ∙ rest_of_mask s (listed_all s)
 
 -- ## The members that bar another
 
@@ -549,7 +549,7 @@ entry_of_byte g is h i {m} l k p =
 -- the word of a fresh entry has a bit for every member
 pub word_fresh : (g : Grammar) (h i : ℕ) → word g (fresh g h i) ≡ h * 65536 + i * 256 + (2 ^ length (members g h) - 1)
 unfolding word
-word_fresh g h i = ap (λ b. h * 65536 + i * 256 + b) (mask_all (members g h))
+word_fresh g h i = ap (λ b. h * 65536 + i * 256 + b) (full_mask (members g h))
 
 -- taking a member clears its bit in the word
 pub word_taking : (g : Grammar) (h i : ℕ) {m k : ℕ} → Proper (members g h) m → Takeable g (members g h) m k

@@ -1,3 +1,4 @@
 pub mod Table
 pub mod Masks
 pub mod Admitted
+pub mod Machine

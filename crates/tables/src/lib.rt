@@ -6,6 +6,8 @@ ghost use Rattle.paper.specs.Image.{grammar_of, image_fault};
 ghost use Rattle.paper.specs.Grammar.{rule_count, left, members, symbols, IsGrammar};
 ghost use Rattle.tables.specs.Table.{bars_of};
 
+mod machine;
+
 use paper::{RuleNo, SymbolNo};
 use std::marker::Model;
 
