@@ -1,6 +1,6 @@
 -- The cells of the sheet while it is built. A cell is the word of an entry, which is its key, and above that a stage.
 -- Assumes nothing.
-use Rattle.std.specs.Prelude.{◌≡◌, Result, Ok, Err, Bool, true, false, List, ◌∷◌, ◌++◌, map, ℕ, suc, ◌+◌, ◌-◌, ◌*◌, ◌/◌, ◌%◌, ◌<◌, length, take, drop}
+use Rattle.std.specs.Prelude.{◌≡◌, Result, Ok, Err, Bool, true, false, List, ◌++◌, map, ℕ, suc, ◌-◌, ◌/◌, ◌%◌, ◌<◌, length, take, drop}
 use Rattle.std.proofs.Math.Seq.{slice}
 use Rattle.paper.specs.Multiset.{StrictlyAscending}
 use Rattle.paper.specs.Building.{insert}
