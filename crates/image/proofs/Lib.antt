@@ -1,0 +1,4 @@
+pub mod RuleSteps
+pub mod PairSteps
+pub mod Rows
+pub mod Faults
