@@ -14,9 +14,9 @@ impl ByteSet {
     pub fn of(byte: u8) -> Self
         ensures { (b : ℕ) → HasByte result.words b ↔ (b ≡ byte) }
     {
-        let mut words = [0; 4];
-        words[usize::from(byte / 64)] = 1 << (byte % 64);
-        ByteSet { words }
+        let mut bytes = ByteSet { words: [0; 4] };
+        bytes.add(byte);
+        bytes
     }
 
     /// Puts a byte into the set.
