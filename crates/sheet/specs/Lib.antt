@@ -2,3 +2,4 @@ pub mod Bytes
 pub mod Cells
 pub mod Growing
 pub mod Grown
+pub mod Learning

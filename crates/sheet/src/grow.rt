@@ -6,6 +6,7 @@ ghost use Rattle.paper.specs.Entry.{Found, fresh};
 ghost use Rattle.paper.specs.Image.{grammar_of};
 ghost use Rattle.tables.specs.Machine.{IsByte};
 ghost use Rattle.tables.specs.Masks.{entry_with};
+ghost use Rattle.sheet.specs.Learning.{IsNoted, AreEmptyParts, GainsLeft};
 ghost use Rattle.sheet.specs.Growing.{Holds, LookedFor, Reaches, Advanced, Completed, Predicted};
 ghost use Rattle.sheet.specs.Grown.{cells_of, IsState, IsGrowth, IsTooMany};
 
@@ -31,24 +32,39 @@ pub struct Lists {
     pub want: u64,
 }
 
-/// Notes what a new entry tells, and puts what becomes of it by taking an empty part among the pending bytes.
-fn learn(input: &Input, lists: &mut Lists, entry: Entry, pending: &mut ByteSet) {
+/// Notes what a new entry tells, and answers the symbols that derive nothing and may be taken from it, a bit for each.
+fn learn(input: &Input, lists: &mut Lists, entry: Entry) -> u64
+    requires place { lists.old.place ≤ 64 }
+    requires rule { entry.rule.0 < rule_count (grammar_of input.now.grammar.now) }
+    requires byte { IsByte (grammar_of input.now.grammar.now) entry.rule.0 entry.rest }
+    ensures place { lists.new.place ≡ lists.old.place }
+    ensures starts { lists.new.starts ≡ lists.old.starts }
+    ensures end { lists.new.end ≡ lists.old.end }
+    ensures noted { IsNoted (grammar_of input.now.grammar.now) lists.old.place entry.rule.0 entry.origin.0 entry.rest lists.old.found lists.old.want lists.new.found lists.new.want }
+    ensures empty { AreEmptyParts (grammar_of input.now.grammar.now) entry.rule.0 entry.rest result }
+{
     let grammar = input.grammar;
-    if entry.rest == 0 {
-        if entry.origin.0 < lists.place {
-            lists.found[usize::from(entry.origin.0)] |= 1 << grammar.left(entry.rule).0;
-        }
-        return;
-    }
     let symbols = grammar.takeable(entry.rule, entry.rest);
     lists.want |= symbols & grammar.nonterminal_set();
-    let mut empty = symbols & grammar.empty_set();
-    while empty != 0 {
-        let x = SymbolNo(empty.trailing_zeros() as u8);
-        if let Some(rest) = grammar.take(entry.rule, entry.rest, x) {
-            pending.add(rest);
+    if entry.rest == 0 && entry.origin.0 < lists.place {
+        lists.found[usize::from(entry.origin.0)] |= 1 << grammar.left(entry.rule).0;
+    }
+    symbols & grammar.empty_set()
+}
+
+/// Puts what is left of an entry when each of the symbols is taken from it among the bytes.
+fn take_each(input: &Input, entry: Entry, symbols: u64, bytes: &mut ByteSet)
+    requires rule { entry.rule.0 < rule_count (grammar_of input.now.grammar.now) }
+    requires byte { IsByte (grammar_of input.now.grammar.now) entry.rule.0 entry.rest }
+    ensures { GainsLeft (grammar_of input.now.grammar.now) entry.rule.0 entry.rest symbols bytes.old.words bytes.new.words }
+{
+    let mut untaken = symbols;
+    while untaken != 0 {
+        let x = untaken.trailing_zeros();
+        if let Some(rest) = input.grammar.take(entry.rule, entry.rest, SymbolNo(x as u8)) {
+            bytes.add(rest);
         }
-        empty -= 1 << x.0;
+        untaken -= 1 << x;
     }
 }
 
@@ -69,7 +85,8 @@ pub fn insert(input: &Input, words: &mut [u32], lists: &mut Lists, entry: Entry,
         let base = lists.starts[usize::from(lists.place)];
         if place(words, base, lists.end, part.word() + stage * KEYS)? {
             lists.end += 1;
-            learn(input, lists, part, &mut pending);
+            let empty = learn(input, lists, part);
+            take_each(input, part, empty, &mut pending);
         }
     }
     Ok(())
