@@ -1,6 +1,6 @@
 -- Sets of bytes: what adding a byte and taking the greatest make of the words, and how far up a set goes.
 -- Assumes nothing.
-use Rattle.std.proofs.Common.{◌≡◌, ◌≢◌, ◌↔◌, ◌⊎◌, inl, inr, ℕ, zero, suc, ◌+◌, ◌-◌, ◌*◌, ◌/◌, ◌%◌, ◌^◌, ◌<◌, ◌≤◌, max, Bool, true, false, cond, eqb, List, [], ◌∷◌, length, get_or, set, bit_or, refl, sym, ap, ◌∙◌, arith, zero-add, get_or-set_other, get_or-set_same}
+use Rattle.std.proofs.Common.{◌≡◌, ◌≢◌, ◌↔◌, ◌⊎◌, inl, inr, ℕ, zero, suc, ◌+◌, ◌-◌, ◌*◌, ◌/◌, ◌%◌, ◌^◌, ◌<◌, ◌≤◌, Bool, true, false, cond, eqb, List, [], ◌∷◌, length, get_or, set, bit_or, refl, sym, ap, ◌∙◌, arith, zero-add, get_or-set_other, get_or-set_same}
 use native.Mathlib.Decide.{dec_lt, ℕ_discrete}
 use lib.Count.{count_leading_zeros}
 use borrow.Author.Tests.{eqb-true, eqb-false}
@@ -143,14 +143,16 @@ module _ (words : List ℕ) (k : ℕ) (four : length words ≡ 4) (low : k < 4) 
       let x = kept_byte words k (word - 2 ^ place) (omega arith) c ne in
       (λ h. (x.0 h, λ e. ne (omega arith)), λ (h, n). x.1 h)
   others c (yes e) (yes f) =
-      let x = written_byte words k (word - 2 ^ place) (omega arith) c e in
-      (λ h. absurd (let z : ⊥ = omega (arith, (x.0 h).1, ap (λ i. bit_at i (word - 2 ^ place)) f, clear_here place word place_set) in z),
-      λ (h, n). absurd (n (byte c e f)))
+      let x = written_byte words k (word - 2 ^ place) (omega arith) c e in (
+        λ h. absurd (let z : ⊥ = omega (arith, (x.0 h).1, ap (λ i. bit_at i (word - 2 ^ place)) f, clear_here place word place_set) in z),
+        λ (h, n). absurd (n (byte c e f)),
+      )
   others c (yes e) (no ne) =
       let x = written_byte words k (word - 2 ^ place) (omega arith) c e in
-      let o = clear_other place (c % 64) word place_set ne in
-      (λ h. (record { is_byte = (x.0 h).0; is_set = ap (λ i. bit_at (c % 64) (get_or words i 0)) e ∙ (sym o ∙ (x.0 h).1) }, λ f. ne (omega arith)),
-      λ (h, n). x.1 (h.is_byte, o ∙ in_word c h e))
+      let o = clear_other place (c % 64) word place_set ne in (
+        λ h. (record { is_byte = (x.0 h).0; is_set = ap (λ i. bit_at (c % 64) (get_or words i 0)) e ∙ (sym o ∙ (x.0 h).1) }, λ f. ne (omega arith)),
+        λ (h, n). x.1 (h.is_byte, o ∙ in_word c h e),
+      )
 
   pub taken : IsGreatestTaken words (64 * k + (63 - count_leading_zeros 64 (get_or words k 0)))
       (set words k (get_or words k 0 - 2 ^ (63 - count_leading_zeros 64 (get_or words k 0))))

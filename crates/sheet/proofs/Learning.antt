@@ -1,7 +1,7 @@
 -- What a new entry tells: the sets gain it, and the bytes gain what is left when each symbol of a set is taken.
 -- Assumes nothing.
-use Rattle.std.proofs.Common.{◌≡◌, ◌≢◌, ◌↔◌, ◌⊎◌, inl, inr, ℕ, ◌+◌, ◌-◌, ◌*◌, ◌%◌, ◌^◌, ◌<◌, Bool, true, false, List, length, get_or, set, bit_and, bit_or, refl, sym, ap, ◌∙◌, arith, get_or-set_other, get_or-set_same}
-use native.Mathlib.Decide.{dec_lt, ℕ_discrete}
+use Rattle.std.proofs.Common.{◌≡◌, ◌≢◌, ◌↔◌, ◌⊎◌, inl, inr, ℕ, ◌-◌, ◌^◌, ◌<◌, true, false, List, length, get_or, set, bit_and, bit_or, sym, ap, ◌∙◌, arith, get_or-set_other, get_or-set_same}
+use native.Mathlib.Decide.{ℕ_discrete}
 use Rattle.paper.specs.Bits.{bit_at}
 use Rattle.paper.specs.Grammar.{Grammar, IsNonterminal, left}
 use Rattle.paper.proofs.Bits.{bit_cases, bit_lt, bit_zero, bit_or_lem, and_set, clear_here, clear_other}
@@ -58,7 +58,7 @@ module _ (g : Grammar) (j h i m want symbols nonterminals : ℕ) (found : List �
           → (bit_at x (get_or (set found i (bit_or (get_or found i 0) (2 ^ a))) k 0) ≡ 1) ↔ ((bit_at x (get_or found k 0) ≡ 1) ⊎ ((m ≡ 0) × (k ≡ i) × (x ≡ left g h)))
       at k x (yes f) =
           let s : get_or (set found i (bit_or (get_or found i 0) (2 ^ a))) k 0 ≡ bit_or (get_or found i 0) (2 ^ a)
-            = ap (λ n. get_or (set found i (bit_or (get_or found i 0) (2 ^ a))) n 0) f ∙ get_or-set_same found i (bit_or (get_or found i 0) (2 ^ a)) 0 within in
+          = ap (λ n. get_or (set found i (bit_or (get_or found i 0) (2 ^ a))) n 0) f ∙ get_or-set_same found i (bit_or (get_or found i 0) (2 ^ a)) 0 within in
           let o = or_power a (get_or found i 0) x in
           (λ b. here x (o.0 (ap (bit_at x) (sym s) ∙ b)) k f, λ b. ap (bit_at x) s ∙ o.1 (back k x f b))
       at k x (no ne) =

@@ -58,10 +58,11 @@ fn take_each(input: &Input, entry: Entry, symbols: u64, bytes: &mut ByteSet)
     requires byte { IsByte (grammar_of input.now.grammar.now) entry.rule.0 entry.rest }
     ensures { GainsLeft (grammar_of input.now.grammar.now) entry.rule.0 entry.rest symbols bytes.old.words bytes.new.words }
 {
+    let grammar = input.grammar;
     let mut untaken = symbols;
     while untaken != 0 {
         let x = untaken.trailing_zeros();
-        if let Some(rest) = input.grammar.take(entry.rule, entry.rest, SymbolNo(x as u8)) {
+        if let Some(rest) = grammar.take(entry.rule, entry.rest, SymbolNo(x as u8)) {
             bytes.add(rest);
         }
         untaken -= 1 << x;

@@ -1,8 +1,7 @@
-use Rattle.std.proofs.Common.{◌≡◌, ℕ, ◌-◌, ◌≤◌, ◌<◌, ap, arith, get_or, length}
+use Rattle.std.proofs.Common.{◌≡◌, ℕ, ◌-◌, ◌<◌, ap, arith, get_or, length}
 use Rattle.std.proofs.lemmas.Nat.{one_shl}
 use lib.Count.{count_leading_zeros}
 use Rattle.paper.proofs.Bits.{bit_power_le}
-use Rattle.sheet.specs.Bytes.{HasByte}
 use Rattle.sheet.specs.declared.bytes.ByteSet.{ByteSet}
 use Rattle.sheet.proofs.ByteSets.{none_in, place_set, taken}
 use Rattle.sheet.proofs.bytes.ByteSet.take_greatest.Goals as goal
