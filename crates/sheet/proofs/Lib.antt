@@ -1,1 +1,3 @@
 pub mod Inserting
+pub mod Growth
+pub mod Advancing
