@@ -1,6 +1,6 @@
 -- Going through a set of symbols that may still grow: what is done is noted in another set.
 -- Assumes nothing.
-use Rattle.std.proofs.Common.{◌≡◌, ◌≢◌, ℕ, suc, ◌+◌, ◌-◌, ◌*◌, ◌%◌, ◌^◌, ◌≤◌, ◌<◌, ◌⊎◌, inl, inr, sym, ◌∙◌, ap, arith, zero-add, bit_and, bit_or, Fits, w64}
+use Rattle.std.proofs.Common.{◌≡◌, ◌≢◌, ℕ, suc, ◌+◌, ◌-◌, ◌*◌, ◌%◌, ◌^◌, ◌<◌, ◌⊎◌, inl, inr, sym, ◌∙◌, ap, arith, zero-add, bit_and, bit_or, Fits, w64}
 use Rattle.std.specs.Int.Bits.{or_add_and}
 use Rattle.std.proofs.lemmas.Nat.{one_shl, ones-le, and_le_l}
 use Rattle.std.proofs.lemmas.Nat.Bits.{bit_at_not}

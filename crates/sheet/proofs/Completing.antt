@@ -1,11 +1,9 @@
 -- Taking each symbol that is finished from an origin, once.
 -- Assumes nothing.
-use Rattle.std.proofs.Common.{◌≡◌, ℕ, suc, ◌+◌, ◌*◌, ◌%◌, ◌^◌, ◌≤◌, ◌<◌, List, get_or, refl, sym, ◌∙◌, ap, arith, bit_or, Fits, w64}
+use Rattle.std.proofs.Common.{◌≡◌, ℕ, ◌+◌, ◌*◌, ◌%◌, ◌^◌, ◌<◌, List, get_or, refl, sym, arith, bit_or, Fits, w64}
 use lib.Count.{ones}
 use Rattle.paper.specs.Bits.{bit_at}
-use Rattle.paper.specs.Grammar.{Grammar, left}
 use Rattle.paper.specs.Image.{grammar_of}
-use Rattle.paper.specs.Entry.{Entry, Found, may_take, taking}
 use Rattle.paper.specs.Entry.Found.{complete}
 use Rattle.paper.proofs.Bits.{bit_zero, zero_ones}
 use Rattle.sheet.specs.Growing.{FinishedFrom, Reaches, Advanced, Completed}

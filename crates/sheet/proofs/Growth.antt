@@ -1,7 +1,6 @@
 -- How growth adds up, and what the cells of a list that is done say.
 -- Assumes nothing.
-use Rattle.std.proofs.Common.{◌≡◌, ℕ, zero, suc, ◌+◌, ◌-◌, ◌≤◌, ◌<◌, ◌⊎◌, inl, inr, List, [], ◌∷◌, ◌++◌, map, length, get_or, refl, sym, ◌∙◌, ap, arith}
-use Rattle.std.proofs.Math.Seq.{slice, length-slice, get_or-drop, get_or-take}
+use Rattle.std.proofs.Common.{◌≡◌, ℕ, zero, suc, ◌-◌, ◌≤◌, ◌<◌, ◌⊎◌, inl, inr, List, [], ◌∷◌, map, length, get_or, refl, sym, ◌∙◌, ap, arith}
 use Rattle.std.proofs.lemmas.Grind.{get_or_default_zero}
 use Rattle.std.proofs.lemmas.List.{length-map}
 use Rattle.std.proofs.lemmas.Bool.{cases_lt}
@@ -19,7 +18,7 @@ use Rattle.paper.proofs.Sums.{sum_append}
 use Rattle.paper.proofs.Building.{sheet_found}
 use Rattle.sheet.specs.Cells.{key}
 use Rattle.sheet.specs.Growing.{Holds, IsListOf, Grew, Advanced}
-use Rattle.sheet.specs.Grown.{start_of, base_of, cells_of, IsState, IsGrowth}
+use Rattle.sheet.specs.Grown.{start_of, IsState, IsGrowth}
 use Rattle.sheet.specs.declared.grow.Lists.{Lists}
 
 -- ## Growth adds up
@@ -91,7 +90,7 @@ pub found_place : {image row : List ℕ} {i : ℕ} {e : Entry} → IsFit image r
 found_place {image} {row} {i} {e} fit f =
     mem_place _ (list_at (sheet_of (grammar_of image) row) i) ((sheet_found (grammar_of image) row fit.is_grammar fit.short i e).1 f)
 
-pub place_found : {image row : List ℕ} {i : ℕ} → IsFit image row → (k : ℕ) → k < length (list_at (sheet_of (grammar_of image) row) i)
+pub entry_found : {image row : List ℕ} {i : ℕ} → IsFit image row → (k : ℕ) → k < length (list_at (sheet_of (grammar_of image) row) i)
     → Found (grammar_of image) row i (entry_at (grammar_of image) row i k)
-place_found {image} {row} {i} fit k l =
+entry_found {image} {row} {i} fit k l =
     (sheet_found (grammar_of image) row fit.is_grammar fit.short i _).0 (place_mem _ (list_at (sheet_of (grammar_of image) row) i) k l)

@@ -1,11 +1,11 @@
 -- Looking for the rules of each symbol that is looked for.
 -- Assumes nothing.
-use Rattle.std.proofs.Common.{◌≡◌, ℕ, suc, ◌+◌, ◌*◌, ◌%◌, ◌^◌, ◌≤◌, ◌<◌, ◌⊎◌, inl, inr, List, length, refl, sym, ◌∙◌, ap, subst, arith, bit_or, Fits, w64}
+use Rattle.std.proofs.Common.{◌≡◌, ℕ, ◌+◌, ◌*◌, ◌%◌, ◌^◌, ◌≤◌, ◌<◌, ◌⊎◌, inl, inr, List, refl, sym, ◌∙◌, ap, subst, arith, bit_or, Fits, w64}
 use Rattle.std.proofs.lemmas.Bool.{cases_lt}
 use Rattle.paper.specs.Bits.{bit_at}
-use Rattle.paper.specs.Grammar.{Grammar, IsGrammar, IsNonterminal, rule_count, left, members}
+use Rattle.paper.specs.Grammar.{Grammar, IsGrammar, rule_count, left, members}
 use Rattle.paper.specs.Image.{grammar_of}
-use Rattle.paper.specs.Entry.{Entry, Found, fresh}
+use Rattle.paper.specs.Entry.{Found, fresh}
 use Rattle.paper.specs.Entry.Found.{start, predict}
 use Rattle.paper.proofs.Bits.{bit_zero}
 use Rattle.paper.specs.Sheet.{rest_of}

@@ -109,7 +109,7 @@ pub fn advance(
     Ok(())
 }
 
-/// The lowest symbol of a set that is not done yet.
+/// A symbol of the set that is not done yet.
 fn next_symbol(set: u64, done: u64) -> Option<SymbolNo>
     ensures next { MatchOption result ((x : ℕ) → bit_at x set ≡ 1 → bit_at x done ≡ 1) (λ x. bit_at x.0 set ≡ 1) }
     ensures new { IfSome result (λ x. bit_at x.0 done ≡ 0) }

@@ -31,7 +31,7 @@ insert-requires-clause-found c =
     let read =
     cell_read c.args.input.now.fits c.loop-at.invariant c.requires.earlier c.from-from.ensures c.loop-at.auto.at c.loop-at-test.true
     (omega (arith, c.of_word-entry.type_inv)) (omega (arith, c.of_word-entry.type_inv)) c.of_word-entry.ensures in
-    taken_found c.args.input.now.fits c.loop-at.invariant c.requires.earlier c.from-from.ensures c.loop-at.auto.at c.loop-at-test.true read c.requires.reaches c.in-Some.ensures.left
+    taken_found c.loop-at.invariant read c.requires.reaches c.in-Some.ensures.left
 
 pub loop-at-preserved : goal.loop-at-preserved
 loop-at-preserved c =
@@ -40,10 +40,10 @@ loop-at-preserved c =
     (omega (arith, c.of_word-entry.type_inv)) (omega (arith, c.of_word-entry.type_inv)) c.of_word-entry.ensures in
     elim c.match-take.branch [
       | in-Some+in_ok-insert w ↦ rw (w.words-is, w.lists-is) (
-          advancing_more c.args.input.now.fits c.loop-at.invariant c.requires.earlier c.from-from.ensures c.loop-at.auto.at c.loop-at-test.true read c.requires.reaches w.in-Some.ensures.left
+          advancing_more c.loop-at.invariant read c.requires.reaches w.in-Some.ensures.left
           w.in_ok-insert.ensures.grown w.in_ok-insert.ensures.has)
       | in_default w ↦ rw (w.words-is, w.lists-is) (
-          advancing_past c.args.input.now.fits c.loop-at.invariant c.requires.earlier c.from-from.ensures c.loop-at.auto.at c.loop-at-test.true read w.in_default.ensures.left)
+          advancing_past c.loop-at.invariant read w.in_default.ensures.left)
     ]
 
 pub returns-clause-grown : goal.returns-clause-grown

@@ -14,7 +14,7 @@ pub insert-requires-clause-found : goal.insert-requires-clause-found
 insert-requires-clause-found c =
     let rule : c.loop-h.h < rule_count (grammar_of c.args.input.now.grammar.now) = omega (arith, c.loop-h-test.true, c.first-h-end.ensures.few) in
     let of_x : left (grammar_of c.args.input.now.grammar.now) c.loop-h.h ≡ c.args.x.0 =
-        omega (arith, c.first-h.ensures.from c.loop-h.h c.loop-h.auto.h rule, c.first-h-end.ensures.before c.loop-h.h c.loop-h-test.true) in
+    omega (arith, c.first-h.ensures.from c.loop-h.h c.loop-h.auto.h rule, c.first-h-end.ensures.before c.loop-h.h c.loop-h-test.true) in
     rw c.full.ensures.value (rule_found c.loop-h.invariant rule c.requires.state c.requires.looked_for of_x)
 
 pub loop-h-preserved : goal.loop-h-preserved
