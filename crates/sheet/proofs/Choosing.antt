@@ -61,6 +61,10 @@ module _ {done x : ℕ} (range : Fits w64 done) (small : x < 64) (new : bit_at x
   pub ones_few : ones done < 64
   ones_few = omega (arith, ones-le 64 (done + 2 ^ x) (set_lt 64 x done small fits new), ones_set x done new)
 
+  -- fewer are left to be done
+  pub fewer : 64 - ones (bit_or done (1 * 2 ^ x % 18446744073709551616)) < 64 - ones done
+  fewer = omega (arith, ones_few, ones_more)
+
   -- what holds of each that was done, and of this one, holds of each that is done now
   pub one_done : {So Now : ℕ → Type 0} → ((y : ℕ) → bit_at y done ≡ 1 → So y) → ((y : ℕ) → So y → Now y) → Now x
       → (y : ℕ) → bit_at y (bit_or done (1 * 2 ^ x % 18446744073709551616)) ≡ 1 → Now y

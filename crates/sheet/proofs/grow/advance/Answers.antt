@@ -23,9 +23,6 @@ take-requires-clause-byte c =
     (cell_read c.args.input.now.fits c.loop-at.invariant c.requires.earlier c.from-from.ensures c.loop-at.auto.at c.loop-at-test.true
     (omega (arith, c.of_word-entry.type_inv)) (omega (arith, c.of_word-entry.type_inv)) c.of_word-entry.ensures).byte
 
-pub insert-requires-clause-state : goal.insert-requires-clause-state
-insert-requires-clause-state c = c.loop-at.invariant.grown.state
-
 pub insert-requires-clause-found : goal.insert-requires-clause-found
 insert-requires-clause-found c =
     let read =
@@ -45,9 +42,6 @@ loop-at-preserved c =
       | in_default w ↦ rw (w.words-is, w.lists-is) (
           advancing_past c.loop-at.invariant read w.in_default.ensures.left)
     ]
-
-pub returns-clause-grown : goal.returns-clause-grown
-returns-clause-grown c = c.loop-at.invariant.grown
 
 pub returns-clause-advanced : goal.returns-clause-advanced
 returns-clause-advanced c = advanced_all c.args.input.now.fits c.loop-at.invariant c.requires.earlier c.from-from.ensures c.loop-at-test.false

@@ -7,9 +7,6 @@ use Rattle.sheet.proofs.grow.predict_symbol.Goals as goal
 pub loop-h-init : goal.loop-h-init
 loop-h-init c = rules_none c.requires.state c.first-h.ensures.before
 
-pub insert-requires-clause-state : goal.insert-requires-clause-state
-insert-requires-clause-state c = c.loop-h.invariant.grown.state
-
 pub insert-requires-clause-found : goal.insert-requires-clause-found
 insert-requires-clause-found c =
     let rule : c.loop-h.h < rule_count (grammar_of c.args.input.now.grammar.now) = omega (arith, c.loop-h-test.true, c.first-h-end.ensures.few) in
@@ -21,9 +18,6 @@ pub loop-h-preserved : goal.loop-h-preserved
 loop-h-preserved c =
     let rule : c.loop-h.h < rule_count (grammar_of c.args.input.now.grammar.now) = omega (arith, c.loop-h-test.true, c.first-h-end.ensures.few) in
     rules_more c.loop-h.invariant rule c.in_ok-insert.ensures.grown (rw c.full.ensures.value at c.in_ok-insert.ensures.has)
-
-pub returns-clause-grown : goal.returns-clause-grown
-returns-clause-grown c = c.loop-h.invariant.grown
 
 pub returns-clause-predicted : goal.returns-clause-predicted
 returns-clause-predicted c =
