@@ -128,7 +128,7 @@ placed_words x base p end words h l =
     ∙ set_at (take (base + p) words) (get_or words (base + p) 0) (take (end - (base + p)) (drop (base + p) words) ++ drop (suc end) words) x (base + p) (length-take-le (base + p) words (omega arith))
     ∙ rw (front base p end words h, rest base p end words) (simp append_assoc)
 
-at_place : (base p end : ℕ) (words : List ℕ) → base + p < end → get_or (slice base end words) p 0 ≡ get_or words (base + p) 0
+pub at_place : (base p end : ℕ) (words : List ℕ) → base + p < end → get_or (slice base end words) p 0 ≡ get_or words (base + p) 0
 at_place base p end words h = get_or-drop base (take end words) p 0 ∙ get_or-take end words (base + p) 0 h
 
 -- ---- the three answers of `place`

@@ -1,6 +1,11 @@
-pub mod Inserting
+pub mod Advancing
 pub mod ByteSets
-pub mod Learning
 pub mod Cells
+pub mod Choosing
+pub mod Completing
 pub mod Emptying
 pub mod Filling
+pub mod Growth
+pub mod Inserting
+pub mod Learning
+pub mod Predicting

@@ -1,6 +1,7 @@
 // The list that grows: each operation puts entries into it, and all that becomes of them by taking empty parts.
 
-ghost use Rattle.std.specs.Prelude.{◌≡◌, ℕ, ◌<◌, ◌≤◌, OnOk, IfErr, length};
+ghost use Rattle.std.specs.Prelude.{◌≡◌, ℕ, ◌<◌, ◌≤◌, OnOk, IfErr, IfSome, MatchOption, length};
+ghost use Rattle.paper.specs.Bits.{bit_at};
 ghost use Rattle.paper.specs.Grammar.{IsNonterminal, rule_count, left};
 ghost use Rattle.paper.specs.Entry.{Found, fresh};
 ghost use Rattle.paper.specs.Image.{grammar_of};
@@ -10,12 +11,11 @@ ghost use Rattle.sheet.specs.Learning.{IsNoted, AreEmptyParts, GainsLeft};
 ghost use Rattle.sheet.specs.Growing.{Holds, LookedFor, Reaches, Advanced, Completed, Predicted};
 ghost use Rattle.sheet.specs.Grown.{cells_of, IsState, IsGrowth, IsTooMany};
 
-use paper::{Place, Refusal, RuleNo, SymbolNo};
-
 use crate::bytes::ByteSet;
 use crate::input::Input;
 use crate::list::{KEYS, place};
 use crate::word::Entry;
+use paper::{Place, Refusal, RuleNo, SymbolNo};
 
 /// The lists so far, and what the entries of the last one, which grows, tell.
 #[derive(Drop)]
@@ -70,7 +70,13 @@ fn take_each(input: &Input, entry: Entry, symbols: u64, bytes: &mut ByteSet)
 }
 
 /// Puts an entry into the list, and all that becomes of it by taking empty parts.
-pub fn insert(input: &Input, words: &mut [u32], lists: &mut Lists, entry: Entry, stage: u32) -> Result<(), Refusal>
+pub fn insert(
+    input: &Input,
+    words: &mut [u32],
+    lists: &mut Lists,
+    entry: Entry,
+    stage: u32,
+) -> Result<(), Refusal>
     requires state { IsState input.now.grammar.now input.now.tokens.now words.old lists.old }
     requires rule { entry.rule.0 < rule_count (grammar_of input.now.grammar.now) }
     requires byte { IsByte (grammar_of input.now.grammar.now) entry.rule.0 entry.rest }
@@ -94,7 +100,14 @@ pub fn insert(input: &Input, words: &mut [u32], lists: &mut Lists, entry: Entry,
 }
 
 /// Takes symbol x from each entry of list i from which it may be taken. What has origin i gets the stage.
-pub fn advance(input: &Input, words: &mut [u32], lists: &mut Lists, i: u8, x: SymbolNo, stage: u32) -> Result<(), Refusal>
+pub fn advance(
+    input: &Input,
+    words: &mut [u32],
+    lists: &mut Lists,
+    i: u8,
+    x: SymbolNo,
+    stage: u32,
+) -> Result<(), Refusal>
     requires state { IsState input.now.grammar.now input.now.tokens.now words.old lists.old }
     requires earlier { i < lists.old.place }
     requires reaches { Reaches (grammar_of input.now.grammar.now) input.now.tokens.now i lists.old.place x.0 }
@@ -114,6 +127,19 @@ pub fn advance(input: &Input, words: &mut [u32], lists: &mut Lists, i: u8, x: Sy
     Ok(())
 }
 
+/// A symbol of the set that is not done yet.
+fn next_symbol(set: u64, done: u64) -> Option<SymbolNo>
+    ensures next { MatchOption result ((x : ℕ) → bit_at x set ≡ 1 → bit_at x done ≡ 1) (λ x. bit_at x.0 set ≡ 1) }
+    ensures new { IfSome result (λ x. bit_at x.0 done ≡ 0) }
+    ensures below { IfSome result (λ x. x.0 < 64) }
+{
+    let left = set & !done;
+    if left == 0 {
+        return None;
+    }
+    Some(SymbolNo(left.trailing_zeros() as u8))
+}
+
 /// Takes each symbol that is finished from origin i from the entries of list i, once.
 pub fn complete(input: &Input, words: &mut [u32], lists: &mut Lists, i: u8) -> Result<(), Refusal>
     requires state { IsState input.now.grammar.now input.now.tokens.now words.old lists.old }
@@ -122,19 +148,23 @@ pub fn complete(input: &Input, words: &mut [u32], lists: &mut Lists, i: u8) -> R
     ensures completed { OnOk result (Completed (grammar_of input.now.grammar.now) input.now.tokens.now i (cells_of words.new lists.new)) }
     ensures few { IfErr result (λ why. (why ≡ Refusal.FewWords) × IsTooMany input.now.grammar.now input.now.tokens.now (length words.old)) }
 {
-    let mut done: u64 = 0;
+    let mut done = 0;
     let mut stage = 0;
-    while lists.found[usize::from(i)] & !done != 0 {
-        let x = (lists.found[usize::from(i)] & !done).trailing_zeros();
-        done |= 1 << x;
+    while let Some(x) = next_symbol(lists.found[usize::from(i)], done) {
+        done |= 1 << x.0;
         stage += 1;
-        advance(input, words, lists, i, SymbolNo(x as u8), stage)?;
+        advance(input, words, lists, i, x, stage)?;
     }
     Ok(())
 }
 
 /// Looks for each rule of a symbol.
-fn predict_symbol(input: &Input, words: &mut [u32], lists: &mut Lists, x: SymbolNo) -> Result<(), Refusal>
+fn predict_symbol(
+    input: &Input,
+    words: &mut [u32],
+    lists: &mut Lists,
+    x: SymbolNo,
+) -> Result<(), Refusal>
     requires state { IsState input.now.grammar.now input.now.tokens.now words.old lists.old }
     requires nonterminal { IsNonterminal (grammar_of input.now.grammar.now) x.0 }
     requires looked_for { LookedFor (grammar_of input.now.grammar.now) lists.old.place (cells_of words.old lists.old) x.0 }
@@ -161,11 +191,10 @@ pub fn predict(input: &Input, words: &mut [u32], lists: &mut Lists) -> Result<()
     ensures predicted { OnOk result (Predicted (grammar_of input.now.grammar.now) lists.old.place (cells_of words.new lists.new)) }
     ensures few { IfErr result (λ why. (why ≡ Refusal.FewWords) × IsTooMany input.now.grammar.now input.now.tokens.now (length words.old)) }
 {
-    let mut predicted: u64 = 0;
-    while lists.want & !predicted != 0 {
-        let x = (lists.want & !predicted).trailing_zeros();
-        predicted |= 1 << x;
-        predict_symbol(input, words, lists, SymbolNo(x as u8))?;
+    let mut predicted = 0;
+    while let Some(x) = next_symbol(lists.want, predicted) {
+        predicted |= 1 << x.0;
+        predict_symbol(input, words, lists, x)?;
     }
     Ok(())
 }
