@@ -1,2 +1,4 @@
 pub mod Exact
 pub mod Inserting
+pub mod Opening
+pub mod Places
