@@ -36,13 +36,17 @@ unfolding starts_from entries sum
 starts_behind at [] t = starts_first at t ∙ omega arith
 starts_behind at (list ∷ s) t = starts_behind (at + length list) s t ∙ omega arith
 
+-- nothing but zeros
+pub zeros : (n i : ℕ) → ◌≡◌ {A = ℕ} (get_or (replicate n 0) i 0) 0
+zeros n i = go (cases_lt i n)
+  where
+    go : (i < n) ⊎ (n ≤ i) → ◌≡◌ {A = ℕ} (get_or (replicate n 0) i 0) 0
+    go (inl l) = get_or-replicate n i 0 0 l
+    go (inr l) = get_or-eq_default (replicate n 0) 0 (omega (arith, length-replicate {A = ℕ} n 0))
+
 -- all is 0 past what was written
 padded_past : (written : List ℕ) (cells i : ℕ) → length written ≤ i → get_or (padded written cells) i 0 ≡ 0
-padded_past written cells i l = get_or-append_right written (replicate (cells - length written) 0) i 0 l ∙ none (cells - length written) (i - length written) (cases_lt _ _)
-  where
-    none : (n k : ℕ) → (k < n) ⊎ (n ≤ k) → ◌≡◌ {A = ℕ} (get_or (replicate n 0) k 0) 0
-    none n k (inl m) = get_or-replicate n k 0 0 m
-    none n k (inr m) = get_or-eq_default (replicate n 0) 0 (omega (arith, length-replicate {A = ℕ} n 0))
+padded_past written cells i l = get_or-append_right written (replicate (cells - length written) 0) i 0 l ∙ zeros (cells - length written) (i - length written)
 
 -- the words up to a place are those up to an earlier one, and those between
 take_slice : (from to : ℕ) (words : List ℕ) → from ≤ to → take to words ≡ take from words ++ slice from to words
