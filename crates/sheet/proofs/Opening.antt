@@ -8,13 +8,14 @@ use native.Mathlib.Decide.{ℕ_discrete}
 use Rattle.paper.specs.Bits.{bit_at}
 use Rattle.paper.specs.Grammar.{Grammar, IsGrammar, IsNonterminal}
 use Rattle.paper.specs.Image.{grammar_of}
+use Rattle.paper.specs.Demands.{IsFit}
 use Rattle.paper.specs.Sheet.{entries}
 use Rattle.paper.specs.Building.{first_lists, sheet_of}
 use Rattle.paper.proofs.Bits.{bit_zero, set_here, set_other}
 use Rattle.sheet.specs.Growing.{IsListOf, IsGrowing}
 use Rattle.sheet.specs.Grown.{start_of, base_of, cells_of, IsState, IsBuilt}
 use Rattle.sheet.specs.declared.grow.Lists.{Lists}
-use Rattle.sheet.proofs.Places.{entries_none, entries_more, entries_sheet, IsLaid, sheet_laid, starts_are}
+use Rattle.sheet.proofs.Places.{zeros, entries_none, entries_more, entries_sheet, IsLaid, sheet_laid, starts_are}
 
 -- ---- no cells
 
@@ -133,3 +134,38 @@ module _ {image row words : List ℕ} where
               (started i (omega arith) (cases_lt i (suc lists.place)) (omega arith)))
             (λ i l. get_or-set_other lists.starts (suc (length row)) i lists.end 0 (λ e. omega arith) ∙ unused i (omega arith));
         }
+
+-- ---- from list to list
+
+-- List j is open, and of the 66 starts those behind it are 0.
+pub record IsLaying (image row : List ℕ) (j : ℕ) (words : List ℕ) (lists : Lists) : Type 0 where
+  pub state : IsState image row words lists
+  pub place : lists.place ≡ j
+  pub long : length lists.starts ≡ 66
+  pub unused : (i : ℕ) → lists.place < i → start_of lists i ≡ 0
+
+pub laying_first : {image row words : List ℕ} {lists : Lists} → IsState image row words lists → lists.place ≡ 0 → lists.starts ≡ replicate 66 0 → IsLaying image row 0 words lists
+laying_first state place none = record { state = state; place = place; long = ap length none; unused = λ i l. ap (λ s. get_or s i 0) none ∙ zeros 66 i }
+
+-- List j has grown; its place and the starts are as before.
+module _ {image row old new : List ℕ} {lists grown : Lists} {j : ℕ} (so : IsLaying image row j old lists) (state : IsState image row new grown) (place : grown.place ≡ lists.place) (starts : grown.starts ≡ lists.starts) where
+  still_unused : (i : ℕ) → grown.place < i → start_of grown i ≡ 0
+  still_unused i l = ap (λ s. get_or s i 0) starts ∙ so.unused i (omega arith)
+
+  pub laying_next : {next : Lists} → IsState image row new next → next.place ≡ grown.place + 1 → next.starts ≡ set grown.starts next.place grown.end → IsLaying image row (j + 1) new next
+  laying_next {next} opened place_is starts_are =
+      record {
+        state = opened;
+        place = let e = so.place in omega arith;
+        long = ap length starts_are ∙ length-set grown.starts next.place grown.end ∙ ap length starts ∙ so.long;
+        unused = λ i l. ap (λ s. get_or s i 0) starts_are ∙ get_or-set_other grown.starts next.place i grown.end 0 (λ e. omega arith) ∙ still_unused i (omega arith);
+      }
+
+  pub laying_end : IsFit image row → IsListOf (grammar_of image) row lists.place (cells_of new grown) → length row ≤ j
+      → IsBuilt image row new (set grown.starts (length row + 1) grown.end)
+  laying_end fit list last =
+      let p = state.place_le in
+      let q = so.place in
+      let z : suc (length row) ≡ length row + 1 = omega arith in
+      subst (λ k. IsBuilt image row new (set grown.starts k grown.end)) z
+      (all_built state (subst (λ k. IsListOf (grammar_of image) row k (cells_of new grown)) (sym place) list) (omega arith) fit.short (ap length starts ∙ so.long) still_unused)

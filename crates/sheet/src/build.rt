@@ -1,9 +1,9 @@
 // The lists of the sheet, one after the other.
 
-ghost use Rattle.std.specs.Prelude.{List, ℕ, ◌≡◌, ◌+◌, ◌<◌, OnOk, IfOk, IfErr, length, slice_set};
+ghost use Rattle.std.specs.Prelude.{List, ℕ, ◌≡◌, ◌+◌, ◌<◌, OnOk, IfOk, IfErr, length, replicate, slice_set};
 ghost use Rattle.paper.specs.Image.{grammar_of};
 ghost use Rattle.sheet.specs.Growing.{IsListOf};
-ghost use Rattle.sheet.specs.Grown.{start_of, cells_of, IsState, IsTooMany, IsBuilt};
+ghost use Rattle.sheet.specs.Grown.{cells_of, IsState, IsTooMany, IsBuilt};
 
 use paper::{Refusal, SymbolNo};
 
@@ -13,7 +13,8 @@ use crate::input::Input;
 /// No list yet: list 0 is open, and the start symbol is looked for.
 fn first_lists(input: &Input) -> Lists
     ensures state { (words : List ℕ) → IsState input.now.grammar.now input.now.tokens.now words result }
-    ensures starts { (i : ℕ) → start_of result i ≡ 0 }
+    ensures place { result.place ≡ 0 }
+    ensures starts { result.starts ≡ replicate 66 0 }
 {
     Lists {
         place: 0,

@@ -9,6 +9,3 @@ returns-clause-state c =
     let is = c.args.input.now.fits.is_grammar in
     let small : c.start.result.0 < 64 = let s = is.start_is in omega (arith, is.few_symbols, s.below, c.start.ensures) in
     λ words. first_opened is refl refl (zeros 66) (zeros 64) (one_shl c.start.result.0 64 small ∙ ap (λ n. 2 ^ n) c.start.ensures)
-
-pub returns-clause-starts : goal.returns-clause-starts
-returns-clause-starts c = zeros 66
