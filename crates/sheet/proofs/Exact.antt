@@ -101,9 +101,9 @@ done_none z = record { scanned = λ i e. absurd (let y : ⊥ = omega arith in y)
 pub done_token : {g : Grammar} {row : List ℕ} {j at : ℕ} {cells : List ℕ} → 0 < j → at ≡ j → Advanced g row (j - 1) (get_or row (at - 1) 0) cells → IsDone g row j j cells
 done_token {g} {row} {j} {at} {cells} l e a = record {
   scanned = λ i s.
-    let z : j - 1 ≡ i = omega arith in
-    let y : at - 1 ≡ i = omega arith in
-    subst (λ k. Advanced g row i (get_or row k 0) cells) y (subst (λ k. Advanced g row k (get_or row (at - 1) 0) cells) z a);
+      let z : j - 1 ≡ i = omega arith in
+      let y : at - 1 ≡ i = omega arith in
+      subst (λ k. Advanced g row i (get_or row k 0) cells) y (subst (λ k. Advanced g row k (get_or row (at - 1) 0) cells) z a);
   completed = λ i k m. absurd (let y : ⊥ = omega arith in y);
 }
 

@@ -57,13 +57,13 @@ module _ {image row words : List ℕ} where
         place_le = place;
         starts_are = starts;
         done = λ i l.
-          subst (λ n. IsListOf (grammar_of image) row i (slice n (start_of lists (suc i)) words)) (sym (starts i (omega arith)))
-          (subst (λ n. IsListOf (grammar_of image) row i (slice (entries (first_lists (grammar_of image) row i)) n words)) (sym (starts (suc i) (omega arith))) (laid i l));
+            subst (λ n. IsListOf (grammar_of image) row i (slice n (start_of lists (suc i)) words)) (sym (starts i (omega arith)))
+            (subst (λ n. IsListOf (grammar_of image) row i (slice (entries (first_lists (grammar_of image) row i)) n words)) (sym (starts (suc i) (omega arith))) (laid i l));
         base_le = omega arith;
         end_le = within;
         growing =
-          subst (λ cells. IsGrowing (grammar_of image) row lists.place cells lists.found lists.want) (sym (none_cells (base_of lists) lists.end words base))
-          (none_growing (grammar_of image) row lists.place lists.found lists.want zeros wanted);
+            subst (λ cells. IsGrowing (grammar_of image) row lists.place cells lists.found lists.want) (sym (none_cells (base_of lists) lists.end words base))
+            (none_growing (grammar_of image) row lists.place lists.found lists.want zeros wanted);
       }
 
   -- list 0 is open
@@ -74,8 +74,8 @@ module _ {image row words : List ℕ} where
       (λ i l. let z : 0 ≡ i = omega arith in starts i ∙ sym (entries_none (grammar_of image) row) ∙ ap (λ m. entries (first_lists (grammar_of image) row m)) z)
       (λ i l. absurd (let z : ⊥ = omega arith in z)) zeros
       (λ x.
-        let one = one_symbol (grammar_of image).start x in
-        (λ s. let e = one.0 (ap (bit_at x) (sym want) ∙ s) in (subst (IsNonterminal (grammar_of image)) (sym e) is.start_is, (place, e)), λ w. ap (bit_at x) want ∙ one.1 w.1.1))
+      let one = one_symbol (grammar_of image).start x in
+      (λ s. let e = one.0 (ap (bit_at x) (sym want) ∙ s) in (subst (IsNonterminal (grammar_of image)) (sym e) is.start_is, (place, e)), λ w. ap (bit_at x) want ∙ one.1 w.1.1))
 
   -- ---- lists that are done
 
@@ -94,7 +94,7 @@ module _ {image row words : List ℕ} where
         let e : lists.place ≡ i = omega arith in
         subst (IsLaid (grammar_of image) row words) e
         (subst (λ n. IsListOf (grammar_of image) row lists.place (slice n (entries (first_lists (grammar_of image) row (suc lists.place))) words)) (state.starts_are lists.place (omega arith))
-          (subst (λ n. IsListOf (grammar_of image) row lists.place (slice (base_of lists) n words)) end_is list))
+        (subst (λ n. IsListOf (grammar_of image) row lists.place (slice (base_of lists) n words)) end_is list))
 
     -- each list up to the last stands in its place
     pub all_laid : (i : ℕ) → i ≤ lists.place → IsLaid (grammar_of image) row words i
@@ -115,7 +115,7 @@ module _ {image row words : List ℕ} where
     next_opened {next} more room place starts end zeros want =
         opened (omega arith)
         (ap (λ s. get_or s next.place 0) starts ∙ ap (λ k. get_or (set lists.starts (suc lists.place) lists.end) k 0) place
-          ∙ get_or-set_same lists.starts (suc lists.place) lists.end 0 room ∙ sym end)
+        ∙ get_or-set_same lists.starts (suc lists.place) lists.end 0 room ∙ sym end)
         (let l = state.end_le in omega arith)
         (λ i l. ap (λ s. get_or s i 0) starts ∙ started i room (cases_lt i (suc lists.place)) (omega arith))
         (λ i l. all_laid i (omega arith)) zeros
@@ -129,10 +129,10 @@ module _ {image row words : List ℕ} where
           fits = let within = state.end_le in omega (arith, end_is, ap (λ n. entries (first_lists (grammar_of image) row (suc n))) place, entries_sheet (grammar_of image) row);
           words_are = sheet_laid (grammar_of image) row words (λ i l. all_laid i (omega arith));
           starts_are =
-            starts_are (grammar_of image) row (set lists.starts (suc (length row)) lists.end) (omega (arith, length-set lists.starts (suc (length row)) lists.end)) short
-            (λ i l. subst (λ n. get_or (set lists.starts (suc n) lists.end) i 0 ≡ entries (first_lists (grammar_of image) row i)) place
+              starts_are (grammar_of image) row (set lists.starts (suc (length row)) lists.end) (omega (arith, length-set lists.starts (suc (length row)) lists.end)) short
+              (λ i l. subst (λ n. get_or (set lists.starts (suc n) lists.end) i 0 ≡ entries (first_lists (grammar_of image) row i)) place
               (started i (omega arith) (cases_lt i (suc lists.place)) (omega arith)))
-            (λ i l. get_or-set_other lists.starts (suc (length row)) i lists.end 0 (λ e. omega arith) ∙ unused i (omega arith));
+              (λ i l. get_or-set_other lists.starts (suc (length row)) i lists.end 0 (λ e. omega arith) ∙ unused i (omega arith));
         }
 
 -- ---- from list to list

@@ -50,4 +50,4 @@ module _ {image row : List ℕ} {before lists after : Lists} {old new : List ℕ
       let done = done_predicted (subst (λ n. IsDone (grammar_of image) row n 0 (cells_of old lists)) (sym so.place) none) growth.grew in
       subst (λ n. IsListOf (grammar_of image) row n (cells_of new after)) (growth.place_is ∙ so.place)
       (exact fit.is_grammar fit.short growth.state.growing (subst (λ n. IsDone (grammar_of image) row n 0 (cells_of new after)) (sym growth.place_is) done)
-        (subst (λ n. Predicted (grammar_of image) n (cells_of new after)) (sym growth.place_is) predicted))
+      (subst (λ n. Predicted (grammar_of image) n (cells_of new after)) (sym growth.place_is) predicted))

@@ -12,8 +12,8 @@ advance-requires-clause-reaches c =
 pub loop-i-init : goal.loop-i-init
 loop-i-init c =
     elim c.if-j-gt0.branch [
-      then-j-gt0+in_ok-advance w ↦ rw (w.words-is, w.lists-is) (underway_token w.if-j-gt0.true w.from.ensures w.in_ok-advance.ensures.grown w.in_ok-advance.ensures.advanced)
-    | else-j-gt0 w ↦ rw (w.words-is, w.lists-is) (underway_none w.if-j-gt0.false c.requires.state)
+      | then-j-gt0+in_ok-advance w ↦ rw (w.words-is, w.lists-is) (underway_token w.if-j-gt0.true w.from.ensures w.in_ok-advance.ensures.grown w.in_ok-advance.ensures.advanced)
+      | else-j-gt0 w ↦ rw (w.words-is, w.lists-is) (underway_none w.if-j-gt0.false c.requires.state)
     ]
 
 pub loop-i-preserved : goal.loop-i-preserved

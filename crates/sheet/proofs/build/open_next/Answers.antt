@@ -1,4 +1,4 @@
-use Rattle.std.proofs.Common.{◌≡◌, suc, ◌+◌, ◌<◌, length, set, refl, ap, ◌∙◌, arith}
+use Rattle.std.proofs.Common.{◌≡◌, suc, ◌<◌, length, set, refl, ap, ◌∙◌, arith}
 use Rattle.sheet.proofs.Places.{zeros}
 use Rattle.sheet.proofs.Opening.{next_opened}
 use Rattle.sheet.proofs.build.open_next.Goals as goal
