@@ -1,11 +1,11 @@
 -- A list that no operation makes grow any more is the list of the sheet.
 -- Assumes nothing.
-use Rattle.std.proofs.Common.{◌≡◌, ℕ, suc, ◌+◌, ◌-◌, ◌≤◌, ◌<◌, true, List, [], ◌∷◌, map, length, get_or, refl, sym, ap, ◌∙◌, subst, inl, inr, ◌⊎◌, arith}
+use Rattle.std.proofs.Common.{◌≡◌, ℕ, suc, ◌-◌, ◌≤◌, ◌<◌, true, List, [], ◌∷◌, map, length, get_or, refl, sym, ap, ◌∙◌, subst, inl, inr, ◌⊎◌, arith}
 use Rattle.std.proofs.Math.Seq.{slice, slice_empty}
 use Rattle.std.proofs.lemmas.Bool.{cases_lt}
 use mathlib.Core.List.Memᴰ
 use mathlib.Core.List.{Memᴰ}
-use Rattle.paper.specs.Grammar.{Grammar, IsGrammar, rule_count, left}
+use Rattle.paper.specs.Grammar.{Grammar, IsGrammar, left}
 use Rattle.paper.specs.Derivation.{Derives}
 use Rattle.paper.specs.Entry.{Entry, may_take, fresh, taking, finished, Found}
 use Rattle.paper.specs.Entry.Found.{start, scan, predict, complete}
@@ -108,14 +108,15 @@ done_token {g} {row} {j} {at} {cells} l e a = record {
 }
 
 -- one origin more is completed
-pub done_more : {g : Grammar} {row : List ℕ} {j i : ℕ} {old new : List ℕ} → IsDone g row j (suc i) old → Grew g 0 i old new → Completed g row i new → IsDone g row j i new
-done_more {g} {row} {j} {i} {old} {new} done grew now =
+pub done_more : {g : Grammar} {row : List ℕ} {j low i : ℕ} {old new : List ℕ} → low ≡ suc i → IsDone g row j low old → Grew g 0 i old new → Completed g row i new → IsDone g row j i new
+done_more {g} {row} {j} {low} {i} {old} {new} z done grew now =
     record { scanned = λ k e. advanced_stays grew (done.scanned k e); completed = λ k l m. go k l m (cases_lt i k) }
   where
     go : (k : ℕ) → i ≤ k → k < j → (i < k) ⊎ (k ≤ i) → Completed g row k new
-    go k l m (inl h) = completed_stays grew (λ z y. omega arith) (done.completed k h m)
+    go k l m (inl h) = completed_stays grew (λ a b. omega arith) (done.completed k (omega arith) m)
     go k l m (inr h) = let e : i ≡ k = omega arith in subst (λ n. Completed g row n new) e now
 
 -- what is predicted has no earlier origin
-pub done_predicted : {g : Grammar} {row : List ℕ} {j : ℕ} {old new : List ℕ} → IsDone g row j 0 old → Grew g j j old new → IsDone g row j 0 new
-done_predicted done grew = record { scanned = λ k e. advanced_stays grew (done.scanned k e); completed = λ k l m. completed_stays grew (λ z y. omega arith) (done.completed k l m) }
+pub done_predicted : {g : Grammar} {row : List ℕ} {j low : ℕ} {old new : List ℕ} → low ≤ 0 → IsDone g row j low old → Grew g j j old new → IsDone g row j 0 new
+done_predicted z done grew =
+    record { scanned = λ k e. advanced_stays grew (done.scanned k e); completed = λ k l m. completed_stays grew (λ a b. omega arith) (done.completed k (omega arith) m) }

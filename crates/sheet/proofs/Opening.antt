@@ -1,6 +1,6 @@
 -- The state when a list opens, and what the lists that are done come to.
 -- Assumes nothing.
-use Rattle.std.proofs.Common.{◌≡◌, ◌↔◌, ℕ, zero, suc, ◌+◌, ◌-◌, ◌^◌, ◌≤◌, ◌<◌, List, [], ◌∷◌, map, length, get_or, take, set, replicate, refl, sym, ap, ◌∙◌, subst, inl, inr, ◌⊎◌, arith, get_or-set_same, get_or-set_other, length-set, zero-add}
+use Rattle.std.proofs.Common.{◌≡◌, ◌↔◌, ℕ, suc, ◌+◌, ◌-◌, ◌^◌, ◌≤◌, ◌<◌, List, [], length, get_or, set, replicate, sym, ap, ◌∙◌, subst, inl, inr, ◌⊎◌, arith, get_or-set_same, get_or-set_other, length-set, zero-add}
 use Rattle.std.proofs.Math.Seq.{slice, slice_empty, length-slice}
 use Rattle.std.proofs.lemmas.Bool.{cases_lt}
 use mathlib.Core.List.Memᴰ
@@ -10,7 +10,7 @@ use Rattle.paper.specs.Grammar.{Grammar, IsGrammar, IsNonterminal}
 use Rattle.paper.specs.Image.{grammar_of}
 use Rattle.paper.specs.Demands.{IsFit}
 use Rattle.paper.specs.Sheet.{entries}
-use Rattle.paper.specs.Building.{first_lists, sheet_of}
+use Rattle.paper.specs.Building.{first_lists}
 use Rattle.paper.proofs.Bits.{bit_zero, set_here, set_other}
 use Rattle.sheet.specs.Growing.{IsListOf, IsGrowing}
 use Rattle.sheet.specs.Grown.{start_of, base_of, cells_of, IsState, IsBuilt}
@@ -56,14 +56,10 @@ module _ {image row words : List ℕ} where
       record {
         place_le = place;
         starts_are = starts;
-        done = λ i l.
-            subst (λ n. IsListOf (grammar_of image) row i (slice n (start_of lists (suc i)) words)) (sym (starts i (omega arith)))
-            (subst (λ n. IsListOf (grammar_of image) row i (slice (entries (first_lists (grammar_of image) row i)) n words)) (sym (starts (suc i) (omega arith))) (laid i l));
+        done = λ i l. rw (starts i (omega arith), starts (suc i) (omega arith)) (laid i l);
         base_le = omega arith;
         end_le = within;
-        growing =
-            subst (λ cells. IsGrowing (grammar_of image) row lists.place cells lists.found lists.want) (sym (none_cells (base_of lists) lists.end words base))
-            (none_growing (grammar_of image) row lists.place lists.found lists.want zeros wanted);
+        growing = rw (none_cells (base_of lists) lists.end words base) (none_growing (grammar_of image) row lists.place lists.found lists.want zeros wanted);
       }
 
   -- list 0 is open
@@ -87,14 +83,10 @@ module _ {image row words : List ℕ} where
         omega (arith, entries_more (grammar_of image) row lists.place state.place_le list, length-slice (base_of lists) lists.end words state.end_le, state.base_le)
 
     laid : (i : ℕ) → (i < lists.place) ⊎ (lists.place ≤ i) → i ≤ lists.place → IsLaid (grammar_of image) row words i
-    laid i (inl l) m =
-        subst (λ n. IsListOf (grammar_of image) row i (slice n (entries (first_lists (grammar_of image) row (suc i))) words)) (state.starts_are i m)
-        (subst (λ n. IsListOf (grammar_of image) row i (slice (start_of lists i) n words)) (state.starts_are (suc i) (omega arith)) (state.done i l))
+    laid i (inl l) m = rw (← state.starts_are i m, ← state.starts_are (suc i) (omega arith)) (state.done i l)
     laid i (inr l) m =
         let e : lists.place ≡ i = omega arith in
-        subst (IsLaid (grammar_of image) row words) e
-        (subst (λ n. IsListOf (grammar_of image) row lists.place (slice n (entries (first_lists (grammar_of image) row (suc lists.place))) words)) (state.starts_are lists.place (omega arith))
-        (subst (λ n. IsListOf (grammar_of image) row lists.place (slice (base_of lists) n words)) end_is list))
+        subst (IsLaid (grammar_of image) row words) e (rw (← state.starts_are lists.place (omega arith), ← end_is) list)
 
     -- each list up to the last stands in its place
     pub all_laid : (i : ℕ) → i ≤ lists.place → IsLaid (grammar_of image) row words i
