@@ -4,8 +4,12 @@ pub mod Cells
 pub mod Choosing
 pub mod Completing
 pub mod Emptying
+pub mod Exact
 pub mod Filling
 pub mod Growth
 pub mod Inserting
 pub mod Learning
+pub mod Opening
+pub mod Places
 pub mod Predicting
+pub mod Underway

@@ -1,18 +1,19 @@
 // The lists of the sheet, one after the other.
 
-ghost use Rattle.std.specs.Prelude.{List, ℕ, ◌≡◌, ◌+◌, ◌<◌, OnOk, IfOk, IfErr, length};
+ghost use Rattle.std.specs.Prelude.{List, ℕ, ◌≡◌, ◌+◌, ◌<◌, OnOk, IfOk, IfErr, length, replicate, slice_set};
 ghost use Rattle.paper.specs.Image.{grammar_of};
 ghost use Rattle.sheet.specs.Growing.{IsListOf};
 ghost use Rattle.sheet.specs.Grown.{cells_of, IsState, IsTooMany, IsBuilt};
 
-use paper::{Refusal, SymbolNo};
-
 use crate::grow::{Lists, advance, complete, predict};
 use crate::input::Input;
+use paper::{Refusal, SymbolNo};
 
 /// No list yet: list 0 is open, and the start symbol is looked for.
 fn first_lists(input: &Input) -> Lists
-    ensures { (words : List ℕ) → IsState input.now.grammar.now input.now.tokens.now words result }
+    ensures state { (words : List ℕ) → IsState input.now.grammar.now input.now.tokens.now words result }
+    ensures place { result.place ≡ 0 }
+    ensures starts { result.starts ≡ replicate 66 0 }
 {
     Lists {
         place: 0,
@@ -28,6 +29,7 @@ fn grow(input: &Input, words: &mut [u32], lists: &mut Lists) -> Result<(), Refus
     requires state { IsState input.now.grammar.now input.now.tokens.now words.old lists.old }
     ensures state { OnOk result (IsState input.now.grammar.now input.now.tokens.now words.new lists.new) }
     ensures place { OnOk result (lists.new.place ≡ lists.old.place) }
+    ensures starts { OnOk result (lists.new.starts ≡ lists.old.starts) }
     ensures list { OnOk result (IsListOf (grammar_of input.now.grammar.now) input.now.tokens.now lists.old.place (cells_of words.new lists.new)) }
     ensures few { IfErr result (λ why. (why ≡ Refusal.FewWords) × IsTooMany input.now.grammar.now input.now.tokens.now (length words.old)) }
 {
@@ -49,6 +51,7 @@ fn open_next(input: &Input, words: &[u32], lists: &mut Lists)
     requires more { lists.old.place < length input.now.tokens.now }
     ensures state { IsState input.now.grammar.now input.now.tokens.now words.now lists.new }
     ensures place { lists.new.place ≡ lists.old.place + 1 }
+    ensures starts { lists.new.starts ≡ slice_set lists.old.starts lists.new.place lists.old.end }
 {
     lists.place += 1;
     lists.starts[usize::from(lists.place)] = lists.end;
