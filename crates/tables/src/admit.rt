@@ -50,8 +50,8 @@ fn symbols_of(members: &[u8]) -> [SymbolNo; 8]
     ensures { (k : ℕ) → k < length members.now → (get_or result k (record { 0 = 0 })).0 ≡ slice_index members.now k }
 {
     let mut symbols = [SymbolNo(0); 8];
-    for k in 0..members.len() {
-        symbols[k] = SymbolNo(members[k]);
+    for (k, member) in members.iter().enumerate() {
+        symbols[k] = SymbolNo(*member);
     }
     symbols
 }
@@ -76,7 +76,8 @@ fn fill_rows(rules: &[u8], later: &[u64; 64]) -> [Row; 96]
     requires counted { 1 ≤ length rules.now }
     requires few { byte rules.now 0 ≤ 96 }
     requires records { (h : ℕ) → h < byte rules.now 0 → IsRecord (record_at h (drop 1 rules.now)) }
-    ensures { (h : ℕ) → h < byte rules.now 0 → IsRowOf (alone later.now (rule_of (record_at h (drop 1 rules.now)))) 0 (row_at result h) }
+    ensures long { length result ≡ 96 }
+    ensures filled { (h : ℕ) → h < byte rules.now 0 → IsRowOf (alone later.now (rule_of (record_at h (drop 1 rules.now)))) 0 (row_at result h) }
 {
     let mut rows = [Row {
         left: SymbolNo(0),

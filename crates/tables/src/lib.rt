@@ -10,6 +10,8 @@ ghost use Rattle.tables.specs.Table.{bars_of};
 
 mod admit;
 mod machine;
+#[cfg(test)]
+mod tests;
 
 use paper::{RuleNo, SymbolNo};
 use std::marker::Model;
