@@ -8,7 +8,10 @@ ghost use Rattle.paper.specs.Derivation.{Derives};
 ghost use Rattle.paper.specs.Grammar.{IsNonterminal, rule_count, left, members, symbols, IsGrammar};
 ghost use Rattle.tables.specs.Table.{bars_of};
 
+mod admit;
 mod machine;
+#[cfg(test)]
+mod tests;
 
 use paper::{RuleNo, SymbolNo};
 use std::marker::Model;
