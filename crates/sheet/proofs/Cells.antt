@@ -10,7 +10,6 @@ use Rattle.paper.specs.Grammar.{Grammar}
 use Rattle.paper.specs.Entry.{Entry}
 use Rattle.paper.specs.Sheet.{entry_of}
 use Rattle.paper.specs.Building.{insert, insert_all}
-use Rattle.paper.proofs.Lists.{map_mem}
 use Rattle.paper.proofs.Closure.{climbs_ascending, ascending_climbs, insert_all_keeps, insert_all_climbs, every_insert_all}
 use Rattle.sheet.specs.Cells.{key, Ascends}
 use Rattle.sheet.specs.Growing.{entry_in, Holds}
@@ -49,10 +48,10 @@ module _ (g : Grammar) (x : ℕ) (s : List ℕ) where
   holds_new = let k = key_in x s in Memᴰ.cast (ap (λ w. entry_of g w) (sym k.2)) (Memᴰ.map (entry_in g) k.1)
 
   pub holds_still : (e : Entry) → Holds g s e → Holds g (insert key x s) e
-  holds_still e m = let k = map_mem (entry_in g) s m in Memᴰ.cast k.2 (Memᴰ.map (entry_in g) (kept_in x s k.1))
+  holds_still e m = let k = Memᴰ.of_map (entry_in g) s m in Memᴰ.cast (sym k.2) (Memᴰ.map (entry_in g) (kept_in x s k.1))
 
   pub holds_only : (e : Entry) → Holds g (insert key x s) e → Holds g s e ⊎ (e ≡ entry_in g x)
-  holds_only e m = let k = map_mem (entry_in g) (insert key x s) m in go k.0 k.2 (only_new x s k.0 k.1)
+  holds_only e m = let k = Memᴰ.of_map (entry_in g) (insert key x s) m in go k.0 (sym k.2) (only_new x s k.0 k.1)
     where
       go : (z : ℕ) → e ≡ entry_in g z → (z ≡ x) ⊎ Memᴰ z s → Holds g s e ⊎ (e ≡ entry_in g x)
       go z f (inl q) = inr (f ∙ ap (entry_in g) q)

@@ -7,7 +7,8 @@ use Rattle.std.proofs.lemmas.Nat.Bits.{bit_at_not}
 use native.Mathlib.Decide.{ℕ_discrete}
 use lib.Count.{ones, count_trailing_zeros}
 use Rattle.paper.specs.Bits.{bit_at}
-use Rattle.paper.proofs.Bits.{bit_at_lem, bit_cases, bit_zero, bit_place, and_set, and_none, set_lt, set_other, trailing_lt, trailing_set, ones_set}
+use borrow.Author.Numbers.{trailing_lt}
+use Rattle.paper.proofs.Bits.{bit_at_lem, bit_cases, bit_zero, bit_place, and_set, and_none, set_lt, set_other, trailing_set, ones_set}
 
 -- ## The next one
 
@@ -37,7 +38,7 @@ module _ {set done : ℕ} (set_fits : set < 18446744073709551616) (done_fits : d
     next_in = lowest_in.0
 
     pub next_new : bit_at lowest done ≡ 0
-    next_new = omega (arith, lowest_in.1, not_done lowest (trailing_lt 64 (bit_and set (18446744073709551615 - done)) some left_fits))
+    next_new = omega (arith, lowest_in.1, not_done lowest (trailing_lt 64 (bit_and set (18446744073709551615 - done)) (omega (arith, some)) left_fits))
 
 -- ## One more is done
 

@@ -3,7 +3,6 @@
 use Rattle.std.proofs.Common.{◌≡◌, ℕ, suc, ◌-◌, ◌≤◌, ◌<◌, true, List, [], ◌∷◌, map, length, get_or, refl, sym, ap, ◌∙◌, subst, inl, inr, ◌⊎◌, arith}
 use Rattle.std.proofs.Math.Seq.{slice, slice_empty}
 use Rattle.std.proofs.lemmas.Bool.{cases_lt}
-use mathlib.Core.List.Memᴰ
 use mathlib.Core.List.{Memᴰ}
 use Rattle.paper.specs.Grammar.{Grammar, IsGrammar, left}
 use Rattle.paper.specs.Derivation.{Derives}

@@ -1,6 +1,6 @@
 -- The list that grows: what holds of its cells, and what each operation does to them.
 -- Assumes nothing.
-use Rattle.std.specs.Prelude.{◌≡◌, ◌↔◌, ◌⊎◌, true, List, [], ◌∷◌, map, ℕ, ◌+◌, ◌≤◌, ◌<◌, length, get_or}
+use Rattle.std.specs.Prelude.{◌≡◌, ◌↔◌, ◌⊎◌, true, List, [], ◌∷◌, map, ℕ, ◌≤◌, ◌<◌, get_or}
 use mathlib.Core.List.{Memᴰ}
 use Rattle.paper.specs.Bits.{bit_at}
 use Rattle.paper.specs.Grammar.{Grammar, IsNonterminal, rule_count, left}

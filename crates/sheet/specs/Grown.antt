@@ -1,10 +1,9 @@
 -- The state of the sheet while it is built, before and after an operation.
 -- Assumes nothing.
-use Rattle.std.specs.Prelude.{◌≡◌, List, map, ℕ, suc, ◌+◌, ◌≤◌, ◌<◌, length, get_or, take, drop}
+use Rattle.std.specs.Prelude.{◌≡◌, List, map, ℕ, suc, ◌≤◌, ◌<◌, length, get_or, take}
 use Rattle.std.proofs.Math.Seq.{slice}
-use Rattle.paper.specs.Grammar.{Grammar}
 use Rattle.paper.specs.Image.{grammar_of}
-use Rattle.paper.specs.Sheet.{entries, list_at}
+use Rattle.paper.specs.Sheet.{entries}
 use Rattle.paper.specs.Building.{first_lists, sheet_of}
 use Rattle.paper.specs.Outcome.{sheet_words, starts_from, padded}
 use Rattle.sheet.specs.Cells.{key}
