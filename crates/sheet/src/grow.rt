@@ -9,12 +9,11 @@ ghost use Rattle.tables.specs.Masks.{entry_with};
 ghost use Rattle.sheet.specs.Growing.{Holds, LookedFor, Reaches, Advanced, Completed, Predicted};
 ghost use Rattle.sheet.specs.Grown.{cells_of, IsState, IsGrowth, IsTooMany};
 
-use paper::{Place, Refusal, RuleNo, SymbolNo};
-
 use crate::bytes::ByteSet;
-use crate::input::Input;
 use crate::list::{KEYS, place};
 use crate::word::Entry;
+use paper::{Place, Refusal, RuleNo, SymbolNo};
+use tables::input::Input;
 
 /// The lists so far, and what the entries of the last one, which grows, tell.
 #[derive(Drop)]
@@ -53,7 +52,13 @@ fn learn(input: &Input, lists: &mut Lists, entry: Entry, pending: &mut ByteSet) 
 }
 
 /// Puts an entry into the list, and all that becomes of it by taking empty parts.
-pub fn insert(input: &Input, words: &mut [u32], lists: &mut Lists, entry: Entry, stage: u32) -> Result<(), Refusal>
+pub fn insert(
+    input: &Input,
+    words: &mut [u32],
+    lists: &mut Lists,
+    entry: Entry,
+    stage: u32,
+) -> Result<(), Refusal>
     requires state { IsState input.now.grammar.now input.now.tokens.now words.old lists.old }
     requires rule { entry.rule.0 < rule_count (grammar_of input.now.grammar.now) }
     requires byte { IsByte (grammar_of input.now.grammar.now) entry.rule.0 entry.rest }
@@ -76,7 +81,14 @@ pub fn insert(input: &Input, words: &mut [u32], lists: &mut Lists, entry: Entry,
 }
 
 /// Takes symbol x from each entry of list i from which it may be taken. What has origin i gets the stage.
-pub fn advance(input: &Input, words: &mut [u32], lists: &mut Lists, i: u8, x: SymbolNo, stage: u32) -> Result<(), Refusal>
+pub fn advance(
+    input: &Input,
+    words: &mut [u32],
+    lists: &mut Lists,
+    i: u8,
+    x: SymbolNo,
+    stage: u32,
+) -> Result<(), Refusal>
     requires state { IsState input.now.grammar.now input.now.tokens.now words.old lists.old }
     requires earlier { i < lists.old.place }
     requires reaches { Reaches (grammar_of input.now.grammar.now) input.now.tokens.now i lists.old.place x.0 }
@@ -116,7 +128,12 @@ pub fn complete(input: &Input, words: &mut [u32], lists: &mut Lists, i: u8) -> R
 }
 
 /// Looks for each rule of a symbol.
-fn predict_symbol(input: &Input, words: &mut [u32], lists: &mut Lists, x: SymbolNo) -> Result<(), Refusal>
+fn predict_symbol(
+    input: &Input,
+    words: &mut [u32],
+    lists: &mut Lists,
+    x: SymbolNo,
+) -> Result<(), Refusal>
     requires state { IsState input.now.grammar.now input.now.tokens.now words.old lists.old }
     requires nonterminal { IsNonterminal (grammar_of input.now.grammar.now) x.0 }
     requires looked_for { LookedFor (grammar_of input.now.grammar.now) lists.old.place (cells_of words.old lists.old) x.0 }

@@ -8,6 +8,7 @@ ghost use Rattle.paper.specs.Derivation.{Derives};
 ghost use Rattle.paper.specs.Grammar.{IsNonterminal, rule_count, left, members, symbols, IsGrammar};
 ghost use Rattle.tables.specs.Table.{bars_of};
 
+pub mod input;
 mod machine;
 
 use paper::{RuleNo, SymbolNo};

@@ -2,7 +2,7 @@
 
 ghost use Rattle.paper.specs.Demands.{IsFit};
 
-use tables::Grammar;
+use crate::Grammar;
 
 /// A row of tokens and the grammar that is to read it. No token is anything but a terminal, and there are 64 at the most.
 #[derive(Drop)]
