@@ -6,8 +6,8 @@ ghost use Rattle.sheet.specs.Growing.{IsListOf};
 ghost use Rattle.sheet.specs.Grown.{cells_of, IsState, IsTooMany, IsBuilt};
 
 use crate::grow::{Lists, advance, complete, predict};
-use crate::input::Input;
 use paper::{Refusal, SymbolNo};
+use tables::input::Input;
 
 /// No list yet: list 0 is open, and the start symbol is looked for.
 fn first_lists(input: &Input) -> Lists

@@ -12,10 +12,10 @@ ghost use Rattle.sheet.specs.Growing.{Holds, LookedFor, Reaches, Advanced, Compl
 ghost use Rattle.sheet.specs.Grown.{cells_of, IsState, IsGrowth, IsTooMany};
 
 use crate::bytes::ByteSet;
-use crate::input::Input;
 use crate::list::{KEYS, place};
 use crate::word::Entry;
 use paper::{Place, Refusal, RuleNo, SymbolNo};
+use tables::input::Input;
 
 /// The lists so far, and what the entries of the last one, which grows, tell.
 #[derive(Drop)]

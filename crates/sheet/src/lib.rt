@@ -4,6 +4,5 @@
 pub mod build;
 pub mod bytes;
 pub mod grow;
-pub mod input;
 pub mod list;
 pub mod word;

@@ -9,6 +9,7 @@ ghost use Rattle.paper.specs.Grammar.{IsNonterminal, rule_count, left, members, 
 ghost use Rattle.tables.specs.Table.{bars_of};
 
 mod admit;
+pub mod input;
 mod machine;
 #[cfg(test)]
 mod tests;
