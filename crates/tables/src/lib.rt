@@ -1,12 +1,18 @@
 #![tactic(auto)]
 // An admitted grammar as the layers above ask for it: its rules in rows, filled once per call.
 
-ghost use Rattle.std.specs.Prelude.{◌≡◌, ℕ, None, ◌<◌, ◌≤◌, length, slice_index};
+ghost use Rattle.std.specs.Prelude.{◌≡◌, ◌↔◌, [], ◌∷◌, ℕ, None, ◌<◌, ◌≤◌, length, slice_index};
 ghost use Rattle.paper.specs.Image.{grammar_of, image_fault};
-ghost use Rattle.paper.specs.Grammar.{rule_count, left, members, symbols, IsGrammar};
+ghost use Rattle.paper.specs.Bits.{bit_at};
+ghost use Rattle.paper.specs.Derivation.{Derives};
+ghost use Rattle.paper.specs.Grammar.{IsNonterminal, rule_count, left, members, symbols, IsGrammar};
 ghost use Rattle.tables.specs.Table.{bars_of};
 
+mod admit;
+pub mod input;
 mod machine;
+#[cfg(test)]
+mod tests;
 
 use paper::{RuleNo, SymbolNo};
 use std::marker::Model;
@@ -31,6 +37,8 @@ pub struct Grammar<'a> {
     terminals: u8,
     nonterminals: u8,
     start: SymbolNo,
+    nonterminal_set: u64,
+    empty_set: u64,
 }
 
 impl<'a> Model for Grammar<'a> {
@@ -41,7 +49,7 @@ impl<'a> Model for Grammar<'a> {
 
     ghost view = { λ g. g.image.now };
 
-    ghost invariant = { λ g. IsAdmitted g.image.now g.count g.rows g.firsts g.ranks g.terminals g.nonterminals g.start };
+    ghost invariant = { λ g. IsAdmitted g.image.now g.count g.rows g.firsts g.ranks g.terminals g.nonterminals g.start g.nonterminal_set g.empty_set };
 }
 
 impl Grammar<'_> {
@@ -110,6 +118,20 @@ impl Grammar<'_> {
         ensures { result ≡ bars_of (grammar_of self.now) (members (grammar_of self.now) h.0) k }
     {
         self.rows[usize::from(h.0)].bars[k]
+    }
+
+    /// The nonterminals, a bit for each.
+    pub fn nonterminal_set(&self) -> u64
+        ensures { (x : ℕ) → (bit_at x result ≡ 1) ↔ IsNonterminal (grammar_of self.now) x }
+    {
+        self.nonterminal_set
+    }
+
+    /// The symbols that derive the empty row, a bit for each.
+    pub fn empty_set(&self) -> u64
+        ensures { (x : ℕ) → (bit_at x result ≡ 1) ↔ Derives (grammar_of self.now) (x ∷ []) [] }
+    {
+        self.empty_set
     }
 
     /// The number of the first rule whose left symbol is a or a later one.

@@ -1,0 +1,5 @@
+#![tactic(auto)]
+// Derivation lines, from anybody: when they are valid, their bracket, and the words under each.
+
+pub mod check;
+pub mod line;

@@ -1,0 +1,15 @@
+pub mod Advancing
+pub mod ByteSets
+pub mod Cells
+pub mod Choosing
+pub mod Completing
+pub mod Emptying
+pub mod Exact
+pub mod Filling
+pub mod Growth
+pub mod Inserting
+pub mod Learning
+pub mod Opening
+pub mod Places
+pub mod Predicting
+pub mod Underway

@@ -1,0 +1,5 @@
+pub mod Bytes
+pub mod Cells
+pub mod Growing
+pub mod Grown
+pub mod Learning

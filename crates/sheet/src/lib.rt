@@ -1,0 +1,8 @@
+#![tactic(auto)]
+// The work sheet: its words, its lists, and what is counted over it.
+
+pub mod build;
+pub mod bytes;
+pub mod grow;
+pub mod list;
+pub mod word;
