@@ -30,9 +30,7 @@ impl ByteSet {
     pub fn take_greatest(&mut self) -> Option<u8>
         ensures taken { MatchOption result ((b : ℕ) → ¬ HasByte self.old.words b) (λ byte. IsGreatestTaken self.old.words byte self.new.words) }
     {
-        let mut left = 4;
-        while left > 0 {
-            left -= 1;
+        for left in (0..4).rev() {
             let word = self.words[left];
             if word != 0 {
                 let bit = 63 - word.leading_zeros();

@@ -101,11 +101,12 @@ fn first_from(rows: &[Row], h: usize, a: u8) -> usize
     ensures before { (i : ℕ) → h ≤ i → i < result → (row_at rows.now i).left.0 < a }
     ensures there { result < length rows.now → a ≤ (row_at rows.now result).left.0 }
 {
-    let mut first = h;
-    while first < rows.len() && rows[first].left.0 < a {
-        first += 1;
+    for first in h..rows.len() {
+        if a <= rows[first].left.0 {
+            return first;
+        }
     }
-    first
+    rows.len()
 }
 
 /// For each symbol, the number of the first rule whose left symbol is that or a later one.
