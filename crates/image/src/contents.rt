@@ -12,6 +12,8 @@ fn number_at(image: &[u8], at: usize) -> usize
     usize::from(image[at]) * 256 + usize::from(image[at + 1])
 }
 
+// One name for the offset and one for the length, as the definitions have them.
+
 /// Where body k starts.
 pub fn body_offset(image: &[u8], k: usize) -> usize
     requires within { 17 ≤ length image.now }

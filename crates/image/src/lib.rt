@@ -7,6 +7,7 @@ ghost use Rattle.paper.specs.Image.{image_fault};
 ghost use Rattle.paper.specs.Outcome.{image_refusal};
 
 pub mod contents;
+pub mod house;
 pub mod order;
 mod rules;
 mod symbols;

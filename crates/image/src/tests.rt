@@ -3,14 +3,9 @@
 ghost use Rattle.std.specs.Prelude.{◌+◌, ◌<◌, length};
 
 use super::*;
+use crate::house::HOUSE;
 use std::process::Abort;
 use std::test::Fail;
-
-const HOUSE: [u8; 36] = [
-    0x01, 0x03, 0x01, 0x00, 0x11, 0x00, 0x03, 0x02, 0x00, 0x14, 0x00, 0x0E, 0x03, 0x00, 0x22, 0x00,
-    0x02, 0x04, 0x03, 0x04, 0x03, 0x04, 0x02, 0x05, 0x06, 0x05, 0x03, 0x00, 0x01, 0x02, 0x06, 0x02,
-    0x01, 0x03, 0x01, 0x02,
-];
 
 // What is answered of the image that has these three bodies.
 fn answers<R: Abort + AllocGlobal>(
@@ -86,4 +81,36 @@ fn wants_closed_chains(rt: HostRuntime) -> Result<(), Fail> {
     answers(&rt, &[2, 1, 2], &[0], &[0, 1, 1, 2], Err(Refusal::Chain))?;
     answers(&rt, &[2, 1, 2], &[0], &[0, 1, 0, 2, 1, 2], Ok(()))?;
     answers(&rt, &[2, 1, 2], &[0], &[0, 1, 1, 0], Err(Refusal::Chain))
+}
+
+// What an independent check, written from the rules in another language, makes of every change of one byte: its numbers, 0 for an admitted image, folded into one.
+fn folded_changes(image: &mut [u8]) -> u32 {
+    let mut folded: u32 = 0;
+    for at in 0..image.len() {
+        let byte = image[at];
+        for value in 0..=255 {
+            image[at] = value;
+            let number = check(image).map_or_else(|why| why.number(), |_| 0);
+            folded = folded.wrapping_mul(31).wrapping_add(u32::from(number));
+        }
+        image[at] = byte;
+    }
+    folded
+}
+
+#[test]
+fn changes_of_the_house_image(rt: HostRuntime) {
+    let mut image = HOUSE;
+    assert_eq!(rt; folded_changes(&mut image), 1_293_412_230);
+}
+
+#[test]
+fn changes_of_a_larger_image(rt: HostRuntime) {
+    // Four terminals and four nonterminals, six rules, one of eight members, and four symbols in a row.
+    let mut image = [
+        1, 3, 1, 0, 17, 0, 3, 2, 0, 20, 0, 31, 3, 0, 51, 0, 12, 4, 4, 7, 6, 4, 0, 4, 2, 5, 6, 5, 3,
+        0, 1, 2, 5, 8, 0, 0, 1, 1, 2, 2, 3, 3, 6, 2, 1, 3, 7, 3, 4, 5, 7, 0, 1, 0, 2, 0, 3, 1, 2,
+        1, 3, 2, 3,
+    ];
+    assert_eq!(rt; folded_changes(&mut image), 990_938_700);
 }

@@ -3,6 +3,8 @@
 ghost use Rattle.std.specs.Prelude.{◌≡◌, ◌*◌, ◌+◌, ◌<◌, ◌≤◌, length};
 ghost use Rattle.paper.specs.Lines.{line_size, line_count, line_rule, line_from, line_to, line_parts, line_slot};
 
+// One name for each number of a line, as the definitions have them; that k is a line of these is a fact of two values, and stands in each contract.
+
 /// How many numbers a line has.
 pub const LINE: usize = 12;
 

@@ -5,7 +5,7 @@ pub mod laws;
 
 use thiserror::Error;
 
-// Three types of one shape: they are there to be told apart, and a generic one with a tag would be no plainer.
+// Three types of one shape: `RuleNo`, `SymbolNo` and `Place` are there to be told apart; one `Number<Rule>` with three empty tag types would be six types for three.
 
 /// The number of a rule: Shieber's h (G2).
 #[derive(Clone, Copy, Debug, PartialEq, Eq, PartialOrd, Ord, Hash)]
@@ -54,6 +54,7 @@ impl Refusal {
     ghost use Rattle.std.specs.Prelude.{◌≡◌};
     ghost use Rattle.paper.specs.Refusal.{number_of};
 
+    // A method and no `From`: at a call `why.number()` says what the byte is.
     /// The number that programs print and that C gets.
     pub fn number(self) -> u8
         ensures { result ≡ number_of self }

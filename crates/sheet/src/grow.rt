@@ -17,6 +17,9 @@ use crate::word::Entry;
 use paper::{Place, Refusal, RuleNo, SymbolNo};
 use tables::input::Input;
 
+// `input`, `words` and `lists` go into each operation together. They stay three: a type that holds the lent words with this state as its invariant would break it
+// each time a cell is placed, until what the cell tells is noted, and would be no plainer.
+
 /// The lists so far, and what the entries of the last one, which grows, tell.
 #[derive(Drop)]
 pub struct Lists {

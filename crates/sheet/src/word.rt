@@ -12,6 +12,7 @@ pub struct Entry {
     pub rest: u8,
 }
 
+// No `From`: not every word is an entry's.
 impl Entry {
     /// The word of an entry: rule, origin and byte, eight bits each.
     pub fn word(self) -> u32

@@ -93,6 +93,8 @@ fn fill_rows(rules: &[u8], later: &[u64; 64]) -> [Row; 96]
     rows
 }
 
+// One pass over the rules serves all symbols, so the search goes on where the last one stopped.
+
 /// The number of the first rule from h on whose left symbol is a or a later one.
 fn first_from(rows: &[Row], h: usize, a: u8) -> usize
     requires { h ≤ length rows.now }

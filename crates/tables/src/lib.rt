@@ -17,6 +17,9 @@ mod tests;
 use paper::{RuleNo, SymbolNo};
 use std::marker::Model;
 
+// There is no heap and memory is fixed: arrays of the largest size, with how many of their places count. What bars a member is filled in once all members are
+// known, so symbols and bars are two arrays; a member without its bars would be a value half made.
+
 /// One rule: its left symbol, how many members it has, these, and for each the members that bar it, a bit for each.
 #[derive(Clone, Copy, Debug)]
 pub struct Row {
@@ -52,6 +55,7 @@ impl<'a> Model for Grammar<'a> {
     ghost invariant = { λ g. IsAdmitted g.image.now g.count g.rows g.firsts g.ranks g.terminals g.nonterminals g.start g.nonterminal_set g.empty_set };
 }
 
+// That h is a rule of this grammar is a fact of two values: no type of a number alone can carry it, so it stands in each contract.
 impl Grammar<'_> {
     /// R, the number of rules.
     pub fn rule_count(&self) -> usize
