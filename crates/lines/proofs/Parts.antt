@@ -6,15 +6,14 @@ use mathlib.Core.Logic.{◌↔◌, ◌≢◌}
 use mathlib.Core.List.{List, [], ◌∷◌}
 use Prim.Native.Nat.{ℕ, zero, suc, ◌+◌, ◌-◌, ◌*◌, ◌≤◌, ◌<◌}
 use native.Mathlib.Omega.{arith}
-use lib.ListN.{length, get_or, take, drop}
+use lib.ListN.{length, get_or, drop}
 use Rattle.std.proofs.Math.ListN.{drop_of_length-le}
 use Rattle.std.proofs.Common.{add-one}
 use Rattle.std.proofs.Math.Seq.{drop-cons}
 use Rattle.std.proofs.lemmas.Bool.{both_ways}
 use Rattle.std.proofs.lemmas.List.{get_or-take, get_or-drop, length-take-le, length-drop}
-use Rattle.paper.specs.Multiset.{Arrangement, without}
+use Rattle.paper.specs.Multiset.{without}
 use Rattle.paper.specs.Grammar.{Grammar, StrictPartialOrder, IsGrammar, rule_count, members}
-use Rattle.paper.specs.Derivation.{Acceptable}
 use Rattle.paper.specs.Entry.{may_take}
 use Rattle.paper.specs.Sheet.{rest_of}
 use Rattle.paper.specs.Lines.{line_size, line_count, line_rule, line_from, line_to, line_parts, line_slot, part_slots, line_symbol, Joins}
@@ -97,12 +96,15 @@ module _ {g : Grammar} {row ns : List ℕ} {k : ℕ} where
 
     -- a part that may be taken leaves the slots behind it, and the rest less its symbol
     pub one_joined : may_take g a rest ≡ true → Joined g row ns k (slot ∷ slots) i j rest ↔ Joined g row ns k slots e j (without a rest)
-    one_joined m = (λ x. there x, λ x. record {
-      symbols = a ∷ x.symbols;
-      joins = ahead p x.joins;
-      arranged = taken_arranged g a rest m x.arranged;
-      acceptable = taken_acceptable g a rest m x.arranged x.acceptable;
-    })
+    one_joined m = (
+      there,
+      λ x. record {
+        symbols = a ∷ x.symbols;
+        joins = ahead p x.joins;
+        arranged = taken_arranged g a rest m x.arranged;
+        acceptable = taken_acceptable g a rest m x.arranged x.acceptable;
+      },
+    )
       where
         there : Joined g row ns k (slot ∷ slots) i j rest → Joined g row ns k slots e j (without a rest)
         there x =
@@ -125,7 +127,7 @@ module _ (ns : List ℕ) (k : ℕ) (line : k < line_count ns) (few : line_parts 
   slots_from x l =
       let in_slots : x < length (part_slots ns k) = omega (arith, slots_length) in
       let is_slot : get_or (part_slots ns k) x 0 ≡ line_slot ns k x =
-              get_or-take (line_parts ns k) (drop (line_size * k + 4) ns) x 0 l ∙ get_or-drop (line_size * k + 4) ns x 0 in
+      get_or-take (line_parts ns k) (drop (line_size * k + 4) ns) x 0 l ∙ get_or-drop (line_size * k + 4) ns x 0 in
       rw (add-one, ← is_slot) (drop-cons (part_slots ns k) x 0 in_slots)
 
   -- none is behind the last
@@ -192,6 +194,7 @@ module _ {g : Grammar} {row ns : List ℕ} {k h x i byte : ℕ} (r : Reached g r
     pub one_more : {left : ℕ} → Leaves g h a byte left → IsByte g h left → Reached g row ns k h (x + 1) e left
     one_more {left} t proper =
         let rest = rest_of (members g h) byte in
+        let shorter : length (without a rest) + (x + 1) ≡ length (members g h) = omega (arith, r.left, length_without a rest (taken_has g a rest t.may)) in
         let on = one_joined r.is_grammar.order {rest = rest} p t.may in
         let slots = slots_from ns k r.line few x (omega (arith, r.parts_are)) in
         record {
@@ -201,5 +204,5 @@ module _ {g : Grammar} {row ns : List ℕ} {k h x i byte : ℕ} (r : Reached g r
           parts_are = r.parts_are;
           same = rw (rest_left t) (λ d. on.0 (rw slots at (r.same.0 d)), λ j. r.same.1 (rw slots (on.1 j)));
           proper = proper;
-          left = rw (rest_left t) (omega (arith, r.left, length_without a rest (taken_has g a rest t.may)));
+          left = rw (rest_left t) shorter;
         }

@@ -13,7 +13,7 @@ returns-in_default c = (λ f. absurd (false≢true f), λ d. absurd (stops c.loo
 pub returns-in_default-take : goal.returns-in_default-take
 returns-in_default-take c = (
   λ f. absurd (false≢true f),
-  λ d. absurd (stuck c.loop-x.invariant (omega (arith, c.size-x-end.ensures.size)) c.in-Some.ensures c.in_default-take.ensures.left d)
+  λ d. absurd (stuck c.loop-x.invariant (omega (arith, c.size-x-end.ensures.size)) c.in-Some.ensures c.in_default-take.ensures.left d),
 )
 
 pub loop-x-preserved : goal.loop-x-preserved
