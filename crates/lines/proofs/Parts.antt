@@ -75,13 +75,13 @@ module _ {g : Grammar} {row ns : List ℕ} {k : ℕ} where
   ended Joins.end = refl
 
   -- as many symbols as members were taken: the parts join if they end where the line does
-  pub none_behind : (i j : ℕ) (rest : List ℕ) → length rest ≡ 0 → Joined g row ns k [] i j rest ↔ (i ≡ j)
+  none_behind : (i j : ℕ) (rest : List ℕ) → length rest ≡ 0 → Joined g row ns k [] i j rest ↔ (i ≡ j)
   none_behind i j [] l =
       (λ x. ended x.joins, λ e. record { symbols = []; joins = rw e Joins.end; arranged = arranged_refl []; acceptable = acceptable_nil g })
   none_behind i j (a ∷ rest) l = absurd (let z : ⊥ = omega arith in z)
 
   -- a slot that is no part
-  pub no_part : {slot i j : ℕ} {slots rest : List ℕ} → ((e a : ℕ) → Joins g row ns k (slot ∷ []) i e (a ∷ []) → ⊥) → Joined g row ns k (slot ∷ slots) i j rest → ⊥
+  no_part : {slot i j : ℕ} {slots rest : List ℕ} → ((e a : ℕ) → Joins g row ns k (slot ∷ []) i e (a ∷ []) → ⊥) → Joined g row ns k (slot ∷ slots) i j rest → ⊥
   no_part none x = let h = headed x.joins in none h.end h.a h.head
 
   same_head : {slot i e a j : ℕ} {slots s : List ℕ} → Joins g row ns k (slot ∷ []) i e (a ∷ []) → (h : Headed g row ns k slot slots i j s) → s ≡ a ∷ h.behind
@@ -89,15 +89,15 @@ module _ {g : Grammar} {row ns : List ℕ} {k : ℕ} where
 
   module _ (order : StrictPartialOrder g.precedes) {slot i e a j : ℕ} {slots rest : List ℕ} (p : Joins g row ns k (slot ∷ []) i e (a ∷ [])) where
     -- a part that may not be taken
-    pub not_taken : may_take g a rest ≡ false → Joined g row ns k (slot ∷ slots) i j rest → ⊥
+    not_taken : may_take g a rest ≡ false → Joined g row ns k (slot ∷ slots) i j rest → ⊥
     not_taken f x =
         let h = headed x.joins in
         both_ways (may_take g a rest) f (head_taken order (rw (same_head p h) at x.arranged) (rw (same_head p h) at x.acceptable))
 
     -- a part that may be taken leaves the slots behind it, and the rest less its symbol
-    pub one_joined : may_take g a rest ≡ true → Joined g row ns k (slot ∷ slots) i j rest ↔ Joined g row ns k slots e j (without a rest)
+    one_joined : may_take g a rest ≡ true → Joined g row ns k (slot ∷ slots) i j rest ↔ Joined g row ns k slots e j (without a rest)
     one_joined m = (
-      λ x. there x,
+      there,
       λ x. record {
         symbols = a ∷ x.symbols;
         joins = ahead p x.joins;
@@ -194,6 +194,7 @@ module _ {g : Grammar} {row ns : List ℕ} {k h x i byte : ℕ} (r : Reached g r
     pub one_more : {left : ℕ} → Leaves g h a byte left → IsByte g h left → Reached g row ns k h (x + 1) e left
     one_more {left} t proper =
         let rest = rest_of (members g h) byte in
+        let shorter : length (without a rest) + (x + 1) ≡ length (members g h) = omega (arith, r.left, length_without a rest (taken_has g a rest t.may)) in
         let on = one_joined r.is_grammar.order {rest = rest} p t.may in
         let slots = slots_from ns k r.line few x (omega (arith, r.parts_are)) in
         record {
@@ -203,5 +204,5 @@ module _ {g : Grammar} {row ns : List ℕ} {k h x i byte : ℕ} (r : Reached g r
           parts_are = r.parts_are;
           same = rw (rest_left t) (λ d. on.0 (rw slots at (r.same.0 d)), λ j. r.same.1 (rw slots (on.1 j)));
           proper = proper;
-          left = rw (rest_left t) (omega (arith, r.left, length_without a rest (taken_has g a rest t.may)));
+          left = rw (rest_left t) shorter;
         }

@@ -20,7 +20,7 @@ fn symbol(input: &Input, lines: &[u16], k: usize) -> SymbolNo
 }
 
 /// The symbol of the part in slot x of line k, and where it ends, if it begins at this place.
-fn part(input: &Input, lines: &[u16], k: usize, x: usize, at: usize) -> Option<(SymbolNo, usize)>
+fn part_at(input: &Input, lines: &[u16], k: usize, x: usize, at: usize) -> Option<(SymbolNo, usize)>
     requires line { k < line_count lines.now }
     requires slot { x < 8 }
     requires earlier { (i : ℕ) → i < k → LineRight (grammar_of input.now.grammar.now) input.now.tokens.now lines.now i }
@@ -54,7 +54,7 @@ fn do_parts_join(input: &Input, lines: &[u16], k: usize) -> bool
     let mut at = from(lines, k);
     let mut rest = input.grammar.full(h);
     for x in 0..input.grammar.size(h) {
-        let Some((a, end)) = part(input, lines, k, x, at) else {
+        let Some((a, end)) = part_at(input, lines, k, x, at) else {
             return false;
         };
         let Some(left) = input.grammar.take(h, rest, a) else {

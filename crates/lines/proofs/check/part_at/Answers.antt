@@ -1,7 +1,7 @@
 use Rattle.std.proofs.Common.{sym, ◌∙◌, ◌-◌, arith}
 use Rattle.lines.proofs.Parts.{token_part, line_part, named_line}
-use Rattle.lines.proofs.check.part.Goals as goal
-use Rattle.lines.proofs.check.part.Goals.{then-earlier-k-via-then-earlier-k, then-earlier-k-via-else-earlier-k+then-from-at}
+use Rattle.lines.proofs.check.part_at.Goals as goal
+use Rattle.lines.proofs.check.part_at.Goals.{then-earlier-k-via-then-earlier-k, then-earlier-k-via-else-earlier-k+then-from-at}
 
 pub returns-then-part-eq0 : goal.returns-then-part-eq0
 returns-then-part-eq0 c = token_part _ _ (omega (arith, c.slot-part.ensures)) (omega arith)
