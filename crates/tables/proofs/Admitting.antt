@@ -1,16 +1,15 @@
 -- The table of an admitted image, put together.
 -- Assumes nothing.
-use Rattle.std.proofs.Common.{◌≡◌, ◌↔◌, ℕ, None, ◌+◌, ◌<◌, ◌≤◌, List, [], ◌∷◌, length, length-take-le, get_or, take, drop, arith, Bool, true, refl, sym, ◌∙◌, ap}
+use Rattle.std.proofs.Common.{◌≡◌, ◌↔◌, ℕ, None, ◌+◌, ◌<◌, ◌≤◌, List, [], ◌∷◌, length, length-take-le, get_or, take, drop, arith, true, sym, ◌∙◌, ap}
 use Rattle.paper.specs.Bits.{bit_at}
 use Rattle.paper.specs.Derivation.{Derives}
-use Rattle.paper.specs.Grammar.{Grammar, IsGrammar, IsNonterminal, rule_count, left, members, symbols}
-use Rattle.paper.specs.Image.{byte, body, rule_of, contents_right, image_fault, grammar_of, pairs_of, paired, image_terminals, image_symbols}
+use Rattle.paper.specs.Grammar.{Grammar, IsGrammar, IsNonterminal, rule_count, members, symbols}
+use Rattle.paper.specs.Image.{byte, body, rule_of, contents_right, image_fault, grammar_of, pairs_of, paired}
 use Rattle.paper.specs.Records.{record_at}
-use Rattle.paper.proofs.Image.{RightSymbols, admitted, symbols_right_lem, image_grammar, image_count}
+use Rattle.paper.proofs.Image.{RightSymbols, admitted, symbols_right_lem, image_count}
 use Rattle.tables.specs.declared.Row.{Row}
-use Rattle.tables.specs.Rows.{IsRecord, alone, member_of, AreSmall, LeftsAscend, LeftsWithin, MembersRanked, AreGiven, IsClosed}
+use Rattle.tables.specs.Rows.{alone, AreSmall, LeftsAscend, LeftsWithin, MembersRanked, AreGiven, IsClosed}
 use Rattle.tables.specs.Table.{row_at, rank, IsRowOf, Tabled, Emptied, Ranked}
-use Rattle.tables.proofs.Firsts.{IsFirst}
 use Rattle.tables.proofs.Ranks.{given_within}
 use Rattle.tables.proofs.Empties.{rank_exactly}
 use Rattle.tables.proofs.Filling.{order_sound, rules_counted, rules_few, records_are, later_is, rows_mean, lefts_ascend, rows_small, front_rows}
@@ -47,16 +46,20 @@ module _ {g : Grammar} (is : IsGrammar g) (rows : List Row) (size : length rows 
 
   -- the members of a row have ranks exactly if those of its rule have
   emptied : (ranks : List ℕ) (h r : ℕ) → h < rule_count g → MembersRanked (row_at rows h) ranks r → Emptied g ranks h r
-  emptied ranks h r l w = record { ranked = λ k m.
-    let row = are h l in
-    let e = row.member_is k m in
-    rw e at (w.ranked k (let z : k < (row_at rows h).size = omega (arith, row.size_is) in z)) }
+  emptied ranks h r l w = record {
+    ranked = λ k m.
+        let row = are h l in
+        let e = row.member_is k m in
+        rw e at (w.ranked k (let z : k < (row_at rows h).size = omega (arith, row.size_is) in z));
+  }
 
   members_ranked : (ranks : List ℕ) (h r : ℕ) → h < rule_count g → Emptied g ranks h r → MembersRanked (row_at rows h) ranks r
-  members_ranked ranks h r l w = record { ranked = λ k m.
-    let row = are h l in
-    let n : k < length (members g h) = omega (arith, row.size_is) in
-    rw (row.member_is k n) (w.ranked k n) }
+  members_ranked ranks h r l w = record {
+    ranked = λ k m.
+        let row = are h l in
+        let n : k < length (members g h) = omega (arith, row.size_is) in
+        rw (row.member_is k n) (w.ranked k n);
+  }
 
   module _ {ranks : List ℕ} {given : ℕ} (all : AreGiven rows ranks given) (closed : (h : ℕ) → h < length rows → IsClosed rows ranks h) where
     pub ranked_within : (a : ℕ) → 1 ≤ rank ranks a → a < symbols g
@@ -67,8 +70,8 @@ module _ {g : Grammar} (is : IsGrammar g) (rows : List Row) (size : length rows 
       low = λ a l. omega (arith, all.low a, given_within g.terminals g.nonterminals lefts_within all);
       because = λ a l some. let (h, m, e, w) = all.because a some in (h, omega arith, sym (are h (omega arith)).left_is ∙ e, emptied ranks h (rank ranks a) (omega arith) w);
       closed = λ h l w.
-        let wide : Emptied g ranks h 256 = record { ranked = λ k m. ((w.ranked k m).0, omega (arith, (w.ranked k m).1)) } in
-        rw (are h l).left_is at (closed h (omega arith) (members_ranked ranks h 256 l wide));
+          let wide : Emptied g ranks h 256 = record { ranked = λ k m. ((w.ranked k m).0, omega (arith, (w.ranked k m).1)) } in
+          rw (are h l).left_is at (closed h (omega arith) (members_ranked ranks h 256 l wide));
     }
 
     pub empties : (n : ℕ) → ((x : ℕ) → (bit_at x n ≡ 1) ↔ (1 ≤ rank ranks x)) → (x : ℕ) → (bit_at x n ≡ 1) ↔ Derives g (x ∷ []) []

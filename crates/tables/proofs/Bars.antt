@@ -1,6 +1,6 @@
 -- The members that bar a member, found one after the other; sets of bits.
 -- Assumes nothing.
-use Rattle.std.proofs.Common.{◌≡◌, ◌≢◌, ◌↔◌, ◌⊎◌, inl, inr, ℕ, zero, suc, ◌+◌, ◌-◌, ◌*◌, ◌/◌, ◌%◌, ◌^◌, ◌<◌, ◌≤◌, List, length, get_or, arith, Bool, true, false, ◌&&◌, ◌||◌, refl, sym, ◌∙◌, ap, eqb, ltb, bit_and, bit_or}
+use Rattle.std.proofs.Common.{◌≡◌, ◌≢◌, ◌↔◌, ◌⊎◌, inl, inr, ℕ, zero, suc, ◌+◌, ◌-◌, ◌*◌, ◌/◌, ◌%◌, ◌^◌, ◌<◌, ◌≤◌, List, length, get_or, arith, Bool, true, false, ◌&&◌, ◌||◌, sym, ◌∙◌, ap, eqb, ltb, bit_and, bit_or}
 use native.Mathlib.Decide.{ℕ_discrete}
 use native.Mathlib.Nat.{pow-suc}
 use Rattle.std.proofs.lemmas.Bool.{and_left, and_right, and_from, or_left, or_right, or_from, eq-eqb, ne_eqb, lt-ltb, le-ltb, cases_lt}
@@ -9,7 +9,7 @@ use Rattle.std.proofs.lemmas.List.{get_or_past}
 use Rattle.paper.specs.Bits.{bit_at}
 use Rattle.paper.specs.Multiset.{bit}
 use Rattle.paper.specs.Grammar.{Rule, Grammar}
-use Rattle.paper.proofs.Bits.{bit_at_lem, bit_high, bit_cases, bit_lt, bit_zero, bits_same, bit_ones, bit_place}
+use Rattle.paper.proofs.Bits.{bit_at_lem, bit_high, bit_zero, bits_same, bit_ones, bit_place}
 use Rattle.tables.specs.Rows.{alone}
 use Rattle.tables.specs.Table.{bars_of}
 use Rattle.tables.proofs.Masks.{bars_below, bars_bit}

@@ -1,6 +1,6 @@
 -- A symbol has a rank exactly if it derives the empty row.
 -- Assumes nothing.
-use Rattle.std.proofs.Common.{◌≡◌, ◌↔◌, ◌⊎◌, inl, inr, ℕ, zero, suc, ◌+◌, ◌<◌, ◌≤◌, List, [], ◌∷◌, length, get_or, arith, true, eqb, refl, sym, subst}
+use Rattle.std.proofs.Common.{◌≡◌, ◌↔◌, ◌⊎◌, inl, inr, ℕ, zero, suc, ◌<◌, ◌≤◌, List, [], ◌∷◌, length, get_or, arith, true, eqb, sym, subst}
 use Rattle.std.proofs.lemmas.Bool.{or_cases, eqb-true, false≢true}
 use Rattle.paper.specs.Multiset.{has}
 use Rattle.paper.specs.Grammar.{Grammar, IsGrammar, rule_count, left, members, symbols}
@@ -10,7 +10,7 @@ use Rattle.paper.proofs.Multiset.{arranged_sym}
 use Rattle.paper.proofs.Machine.{has_head, has_tail, has_place, has_arranged, arranged_acceptable}
 use Rattle.paper.proofs.Rewriting.{derives_yields, derives_append}
 use Rattle.paper.proofs.Trees.{derives_tree}
-use Rattle.tables.specs.Table.{rank, Emptied, Ranked}
+use Rattle.tables.specs.Table.{rank, Ranked}
 
 -- symbols that each derive nothing derive nothing together
 all_derive : {g : Grammar} (s : List ℕ) → ((b : ℕ) → has b s ≡ true → Derives g (b ∷ []) []) → Derives g s []

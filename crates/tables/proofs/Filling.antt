@@ -1,19 +1,19 @@
 -- The rows, filled from the records of an admitted image.
 -- Assumes nothing.
-use Rattle.std.proofs.Common.{◌≡◌, ◌↔◌, ◌⊎◌, inl, inr, ℕ, zero, suc, None, ◌+◌, ◌-◌, ◌*◌, ◌^◌, ◌<◌, ◌≤◌, List, [], ◌∷◌, length, get_or, take, drop, set, arith, Bool, true, false, ◌&&◌, ◌||◌, eqb, ltb, refl, sym, subst, ◌∙◌, ap, get_or-set_same, get_or-set_other, length-set, length-drop}
+use Rattle.std.proofs.Common.{◌≡◌, ◌↔◌, ◌⊎◌, inl, inr, ℕ, suc, None, ◌+◌, ◌-◌, ◌*◌, ◌<◌, ◌≤◌, List, [], ◌∷◌, length, get_or, take, drop, set, arith, Bool, true, false, ◌&&◌, ◌||◌, eqb, ltb, refl, sym, subst, ◌∙◌, ap, get_or-set_same, get_or-set_other, length-set, length-drop}
 use native.Mathlib.Decide.{ℕ_discrete}
-use Rattle.std.proofs.lemmas.Bool.{cases_lt, or_cases, eq-eqb, eqb-true, ltb-true, and_parts}
-use Rattle.std.proofs.lemmas.List.{get_or-take, get_or-drop, get_or_default, take_all}
+use Rattle.std.proofs.lemmas.Bool.{or_cases, eq-eqb, eqb-true, ltb-true, and_parts}
+use Rattle.std.proofs.lemmas.List.{get_or-take, get_or-drop, take_all}
 use Rattle.paper.specs.Bits.{bit_at}
 use Rattle.paper.specs.Multiset.{bit}
-use Rattle.paper.specs.Grammar.{Rule, Grammar, IsGrammar, rule_at, rule_count, left, members, symbols}
+use Rattle.paper.specs.Grammar.{Rule, Grammar, rule_at, rule_count, left, members}
 use Rattle.paper.specs.Image.{byte, body, rule_of, record_of, record_size, record_before, image_fault, image_terminals, image_symbols, grammar_of, pairs_of, paired, pair_fault}
 use Rattle.paper.specs.Records.{record_at}
-use Rattle.paper.proofs.Image.{admitted, contents_right_lem, symbols_right_lem, image_grammar, image_count, image_rule}
-use Rattle.paper.proofs.Records.{RightRule, RightRecord, RightRules, rules_right, record_is, record_before_lem, members_count, record_after}
+use Rattle.paper.proofs.Image.{admitted, symbols_right_lem, image_grammar, image_count, image_rule}
+use Rattle.paper.proofs.Records.{RightRules, rules_right, record_is, record_before_lem, members_count, record_after}
 use Rattle.image.proofs.PairSteps.{pair_fault_wider}
 use Rattle.tables.specs.declared.Row.{Row}
-use Rattle.tables.specs.Rows.{IsRecord, alone, member_of, IsSmall, AreSmall, LeftsAscend, LeftsWithin}
+use Rattle.tables.specs.Rows.{IsRecord, alone, member_of, AreSmall, LeftsAscend}
 use Rattle.tables.specs.Table.{bar_bits, bars_of, row_at, IsRowOf}
 
 -- ## One row
@@ -131,7 +131,7 @@ module _ (b : List ℕ) (sound : image_fault b ≡ None) where
         fits = r.fits;
         few = omega (arith, count, r.rule.few);
         below = λ k m.
-          omega (arith, get_or-take (byte (record_at h (drop 1 (body b 1))) 1) (drop 2 (record_at h (drop 1 (body b 1)))) k 0 m, get_or-drop 2 (record_at h (drop 1 (body b 1))) k 0, r.rule.below k (omega arith), symbols_few);
+            omega (arith, get_or-take (byte (record_at h (drop 1 (body b 1))) 1) (drop 2 (record_at h (drop 1 (body b 1)))) k 0 m, get_or-drop 2 (record_at h (drop 1 (body b 1))) k 0, r.rule.below k (omega arith), symbols_few);
       }
 
   pub later_is : (later : List ℕ) → ((a b' : ℕ) → a < 64 → b' < 64 → (bit_at b' (get_or later a 0) ≡ 1) ↔ (paired (pairs_of (body b 2)) a b' ≡ true)) → IsLater (grammar_of b) later

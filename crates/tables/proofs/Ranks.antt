@@ -1,13 +1,13 @@
 -- Ranks, given one after the other.
 -- Assumes nothing.
-use Rattle.std.proofs.Common.{◌≡◌, ◌≢◌, ◌⊎◌, inl, inr, ℕ, zero, suc, ◌+◌, ◌<◌, ◌≤◌, List, [], ◌∷◌, length, get_or, set, replicate, arith, Bool, true, false, refl, sym, subst, ◌∙◌, ap, ltb, get_or-set_same, get_or-set_other, length-set}
+use Rattle.std.proofs.Common.{◌≡◌, ◌≢◌, ◌⊎◌, inl, inr, ℕ, zero, suc, ◌+◌, ◌<◌, ◌≤◌, List, length, set, replicate, arith, refl, sym, subst, ◌∙◌, ap, ltb, get_or-set_same, get_or-set_other, length-set}
 use native.Mathlib.Decide.{ℕ_discrete}
-use Rattle.std.proofs.lemmas.Bool.{lt-ltb, le-ltb, cases_lt}
+use Rattle.std.proofs.lemmas.Bool.{lt-ltb, le-ltb}
 use Rattle.std.proofs.lemmas.List.{length-replicate}
 use Rattle.paper.specs.Multiset.{bit}
 use Rattle.paper.proofs.Multiset.{bit_le}
 use Rattle.tables.specs.declared.Row.{Row}
-use Rattle.tables.specs.Rows.{member_of, IsSmall, AreSmall, LeftsWithin, MembersRanked, many_ranked, AreGiven, IsClosed}
+use Rattle.tables.specs.Rows.{member_of, AreSmall, LeftsWithin, MembersRanked, many_ranked, AreGiven, IsClosed}
 use Rattle.tables.specs.Table.{row_at, rank}
 
 -- ## How many have a rank

@@ -15,18 +15,18 @@ loop-row-preserved c =
     let inv = c.loop-row.invariant in
     elim c.if-ranks-left-eq0.branch [
       | then-ranks-left-eq0+then-are_members_ranked w ↦ record {
-          are_given = rw (w.ranks-is, w.last-is, c.from-left.ensures) (one_given small inv.are_given i (omega arith) (rw c.from-left.ensures at w.if-ranks-left-eq0.true) (w.are_members_ranked.ensures.0 w.if-are_members_ranked.true));
-          up = rw w.last-is (omega (arith, inv.up));
-          closed = λ e. absurd (omega (arith, inv.up, w.last-is, e));
-        }
+        are_given = rw (w.ranks-is, w.last-is, c.from-left.ensures) (one_given small inv.are_given i (omega arith) (rw c.from-left.ensures at w.if-ranks-left-eq0.true) (w.are_members_ranked.ensures.0 w.if-are_members_ranked.true));
+        up = rw w.last-is (omega (arith, inv.up));
+        closed = λ e. absurd (omega (arith, inv.up, w.last-is, e));
+      }
       | else-ranks-left-eq0 w ↦ record {
-          are_given = rw (w.ranks-is, w.last-is) inv.are_given;
-          up = rw w.last-is inv.up;
-          closed = rw (w.ranks-is, w.last-is) (λ e. below_more (λ h. IsClosed c.args.rows.now c.loop-row.ranks h) i (inv.closed e) (elim w.else-ranks-left-eq0.branch [
-            | else-ranks-left-eq0-via-then-ranks-left-eq0+else-are_members_ranked w' ↦ closed_unranked small inv.are_given i (omega arith) (λ all. both_ways w'.are_members_ranked.result w'.if-are_members_ranked.false (w'.are_members_ranked.ensures.1 all))
-            | else-ranks-left-eq0-via-else-ranks-left-eq0 w' ↦ closed_ranked small inv.are_given i (omega arith) (rw c.from-left.ensures at w'.if-ranks-left-eq0.false)
-          ]));
-        }
+        are_given = rw (w.ranks-is, w.last-is) inv.are_given;
+        up = rw w.last-is inv.up;
+        closed = rw (w.ranks-is, w.last-is) (λ e. below_more (λ h. IsClosed c.args.rows.now c.loop-row.ranks h) i (inv.closed e) (elim w.else-ranks-left-eq0.branch [
+          | else-ranks-left-eq0-via-then-ranks-left-eq0+else-are_members_ranked w' ↦ closed_unranked small inv.are_given i (omega arith) (λ all. both_ways w'.are_members_ranked.result w'.if-are_members_ranked.false (w'.are_members_ranked.ensures.1 all))
+          | else-ranks-left-eq0-via-else-ranks-left-eq0 w' ↦ closed_ranked small inv.are_given i (omega arith) (rw c.from-left.ensures at w'.if-ranks-left-eq0.false)
+        ]));
+      }
     ]
 
 pub returns-clause-few : goal.returns-clause-few
