@@ -6,8 +6,8 @@ ghost use Rattle.std.specs.Result.{result_err};
 ghost use Rattle.paper.specs.Image.{image_fault};
 ghost use Rattle.paper.specs.Outcome.{image_refusal};
 
-mod contents;
-mod order;
+pub mod contents;
+pub mod order;
 mod rules;
 mod symbols;
 #[cfg(test)]

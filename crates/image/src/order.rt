@@ -28,7 +28,7 @@ pub fn first_bad_pair(order: &[u8], symbols: usize) -> Option<usize>
 
 /// For each symbol, a bit for each symbol that it must precede.
 #[tactic(auto, using(crate::proofs::Rows::pair_bounds))]
-fn later_symbols(order: &[u8]) -> [u64; 64]
+pub fn later_symbols(order: &[u8]) -> [u64; 64]
     requires pairs { pair_fault 64 0 0 order.now ≡ None }
     ensures rows { length result ≡ 64 }
     ensures bits { (a b : ℕ) → a < 64 → b < 64 → (bit_at b (slice_index result a) ≡ 1) ↔ (paired (pairs_of order.now) a b ≡ true) }

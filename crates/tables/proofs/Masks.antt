@@ -243,13 +243,13 @@ full_rest s = ap (rest_of s) (sym (full_mask s)) ∙ rest_of_mask s (listed_all 
 
 -- ## The members that bar another
 
-bars_below : (g : Grammar) (a k x : ℕ) (s : List ℕ) → bar_bits g a k x s < 2 ^ length s
+pub bars_below : (g : Grammar) (a k x : ℕ) (s : List ℕ) → bar_bits g a k x s < 2 ^ length s
 unfolding bar_bits
 bars_below g a k x [] = omega arith
 bars_below g a k x (b ∷ s) =
     omega (arith, bars_below g a k (suc x) s, pow-suc 2 (length s), bit_le (g.precedes b a || (ltb x k && eqb b a)))
 
-bars_bit : (g : Grammar) (a k x : ℕ) (s : List ℕ) (j : ℕ) → j < length s → bit_at j (bar_bits g a k x s) ≡ bit (g.precedes (get_or s j 0) a || (ltb (x + j) k && eqb (get_or s j 0) a))
+pub bars_bit : (g : Grammar) (a k x : ℕ) (s : List ℕ) (j : ℕ) → j < length s → bit_at j (bar_bits g a k x s) ≡ bit (g.precedes (get_or s j 0) a || (ltb (x + j) k && eqb (get_or s j 0) a))
 unfolding bit_at bar_bits
 bars_bit g a k x [] j l = absurd (let z : ⊥ = omega arith in z)
 bars_bit g a k x (b ∷ s) zero l =

@@ -116,10 +116,10 @@ takes p t e = record { proper = p; may = rw (← e) (may t); becomes = rw (← e
 
 -- ## What may be taken
 
-or_here : (n x : ℕ) → bit_at x (bit_or n (2 ^ x)) ≡ 1
+pub or_here : (n x : ℕ) → bit_at x (bit_or n (2 ^ x)) ≡ 1
 or_here n x = let e = rw zero-add at (set_here x 0 (bit_zero x)) in omega (arith, bit_or_lem x n (2 ^ x), bit_lt x n)
 
-or_other : (n x j : ℕ) → j ≢ x → bit_at j (bit_or n (2 ^ x)) ≡ bit_at j n
+pub or_other : (n x j : ℕ) → j ≢ x → bit_at j (bit_or n (2 ^ x)) ≡ bit_at j n
 or_other n x j ne = let e = rw zero-add at (set_other x j 0 (bit_zero x) ne) in omega (arith, bit_or_lem j n (2 ^ x), bit_zero j)
 
 or_still : (n m j : ℕ) → bit_at j n ≡ 1 → bit_at j (bit_or n m) ≡ 1

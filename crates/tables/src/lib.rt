@@ -8,8 +8,11 @@ ghost use Rattle.paper.specs.Derivation.{Derives};
 ghost use Rattle.paper.specs.Grammar.{IsNonterminal, rule_count, left, members, symbols, IsGrammar};
 ghost use Rattle.tables.specs.Table.{bars_of};
 
+mod admit;
 pub mod input;
 mod machine;
+#[cfg(test)]
+mod tests;
 
 use paper::{RuleNo, SymbolNo};
 use std::marker::Model;
