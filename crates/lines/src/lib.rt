@@ -4,3 +4,5 @@
 pub mod calls;
 pub mod check;
 pub mod line;
+#[cfg(test)]
+mod tests;
