@@ -1,5 +1,8 @@
 #![tactic(auto)]
 // Derivation lines, from anybody: when they are valid, their bracket, and the words under each.
 
+pub mod calls;
 pub mod check;
 pub mod line;
+#[cfg(test)]
+mod tests;

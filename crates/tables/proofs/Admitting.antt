@@ -111,13 +111,17 @@ pub record IsFilled (b : List ℕ) (count : ℕ) (rows : List Row) : Type 0 wher
   pub front : (h : ℕ) → h < rule_count (grammar_of b) → IsRowOf (grammar_of b) h (row_at (take count rows) h)
 
 module _ (b : List ℕ) (sound : image_fault b ≡ None) where
-  pub is_filled : (rules order later : List ℕ) (count : ℕ) (rows : List Row) → rules ≡ body b 1 → order ≡ body b 2 → count ≡ byte rules 0 → length rows ≡ 96
+  -- the rows tell the rules
+  pub rows_tell : (rules order later : List ℕ) (rows : List Row) → rules ≡ body b 1 → order ≡ body b 2
       → ((x y : ℕ) → x < 64 → y < 64 → (bit_at y (get_or later x 0) ≡ 1) ↔ (paired (pairs_of order) x y ≡ true))
       → ((h : ℕ) → h < byte rules 0 → IsRowOf (alone later (rule_of (record_at h (drop 1 rules)))) 0 (row_at rows h))
-      → IsFilled b count rows
-  is_filled rules order later count rows e f count_is long bits filled =
+      → (h : ℕ) → h < rule_count (grammar_of b) → IsRowOf (grammar_of b) h (row_at rows h)
+  rows_tell rules order later rows e f bits filled = rows_mean b sound rows (later_is b sound later (rw f at bits)) (rw e at filled)
+
+  pub is_filled : (rules : List ℕ) (count : ℕ) (rows : List Row) → rules ≡ body b 1 → count ≡ byte rules 0 → length rows ≡ 96
+      → ((h : ℕ) → h < rule_count (grammar_of b) → IsRowOf (grammar_of b) h (row_at rows h)) → IsFilled b count rows
+  is_filled rules count rows e count_is long wide =
       let n : count ≡ byte (body b 1) 0 = count_is ∙ ap (λ r. byte r 0) e in
-      let wide = rows_mean b sound rows (later_is b sound later (rw f at bits)) (rw e at filled) in
       record {
         count_is = n ∙ sym (image_count b);
         size = length-take-le count rows (omega (arith, n, rules_few b sound));

@@ -3,7 +3,8 @@
 ghost use Rattle.std.specs.Prelude.{◌≡◌, ◌↔◌, ℕ, ◌+◌, ◌<◌, ◌≤◌, IsTrue, None, IfOk, true, length, slice_index, get_or, drop};
 ghost use Rattle.std.specs.Result.{result_err};
 ghost use Rattle.paper.specs.Bits.{bit_at};
-ghost use Rattle.paper.specs.Image.{byte, rule_of, image_fault};
+ghost use Rattle.paper.specs.Image.{byte, rule_of, image_fault, grammar_of};
+ghost use Rattle.paper.specs.Grammar.{rule_count};
 ghost use Rattle.paper.specs.Outcome.{image_refusal};
 ghost use Rattle.paper.specs.Records.{record_at};
 ghost use Rattle.tables.specs.Rows.{IsRecord, alone, member_of, IsSmall, AreSmall, LeftsAscend, LeftsWithin, MembersRanked, AreGiven, IsClosed};
@@ -91,6 +92,17 @@ fn fill_rows(rules: &[u8], later: &[u64; 64]) -> [Row; 96]
         records = &records[2 + usize::from(records[1])..];
     }
     rows
+}
+
+/// The rows of an admitted image.
+#[tactic(auto, using(crate::proofs::Admitting::image_facts))]
+fn rows_of(image: &[u8]) -> [Row; 96]
+    requires { image_fault image.now ≡ None }
+    ensures long { length result ≡ 96 }
+    ensures rows { (h : ℕ) → h < rule_count (grammar_of image.now) → IsRowOf (grammar_of image.now) h (row_at result h) }
+{
+    let later = later_symbols(body(image, 2));
+    fill_rows(body(image, 1), &later)
 }
 
 // One pass over the rules serves all symbols, so the search goes on where the last one stopped.
@@ -209,11 +221,11 @@ fn table_of<'a>(image: &'a [u8]) -> Grammar<'a>
 {
     let symbols = body(image, 0);
     let rules = body(image, 1);
-    let later = later_symbols(body(image, 2));
     let count = usize::from(rules[0]);
-    let rows = fill_rows(rules, &later);
-    let firsts = firsts_of(&rows[..count]);
-    let ranks = ranks_of(&rows[..count]);
+    let rows = rows_of(image);
+    let filled = &rows[..count];
+    let firsts = firsts_of(filled);
+    let ranks = ranks_of(filled);
     Grammar {
         image,
         count,
