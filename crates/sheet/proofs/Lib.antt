@@ -9,7 +9,9 @@ pub mod Filling
 pub mod Growth
 pub mod Inserting
 pub mod Learning
+pub mod Listed
 pub mod Opening
 pub mod Places
 pub mod Predicting
+pub mod Tally
 pub mod Underway

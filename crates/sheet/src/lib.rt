@@ -2,6 +2,7 @@
 // The work sheet: its words, its lists, and what is counted over it.
 
 pub mod build;
+pub mod count;
 pub mod bytes;
 pub mod grow;
 pub mod list;
