@@ -43,6 +43,11 @@ unfolding sum_below
 below_at_most c zero f h = omega arith
 below_at_most c (suc n) f h = let a = h n (omega arith) in let b = below_at_most c n f (λ j l. h j (omega arith)) in grind arith
 
+-- one part more
+pub below_next : (n : ℕ) (f : ℕ → ℕ) → sum_below (n + 1) f ≡ sum_below n f + f n
+unfolding sum_below
+below_next n f = rw add-one refl
+
 -- one part counts
 pub below_one : (n k : ℕ) (w : ℕ → ℕ) → k < n → sum_below n (λ c. bit (eqb k c) * w c) ≡ w k
 unfolding sum_below
@@ -75,6 +80,16 @@ below_between (suc n) a b f l low here high m =
 module _ {A : Type 0} where
   pub sum_same : (f w : A → ℕ) (s : List A) → ((x : A) → Memᴰ x s → f x ≡ w x) → sum f s ≡ sum w s
   sum_same f w s h = omega (arith, sum_le f w s (λ x m. omega (arith, h x m)), sum_le w f s (λ x m. omega (arith, h x m)))
+
+  pub sum_add : (f w : A → ℕ) (s : List A) → sum (λ x. f x + w x) s ≡ sum f s + sum w s
+  unfolding sum
+  sum_add f w [] = refl
+  sum_add f w (x ∷ s) = omega (arith, sum_add f w s)
+
+  pub sum_none : (f : A → ℕ) (s : List A) → ((x : A) → f x ≡ 0) → sum f s ≡ 0
+  unfolding sum
+  sum_none f [] h = refl
+  sum_none f (x ∷ s) h = omega (arith, h x, sum_none f s h)
 
   -- a sum over those that pass the test, each by its number, is a sum over the numbers
   pub sum_by_number : (p : A → Bool) (k : A → ℕ) (w : ℕ → ℕ) (n : ℕ) (s : List A) → ((x : A) → Memᴰ x s → k x < n)
