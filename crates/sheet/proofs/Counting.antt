@@ -1,10 +1,12 @@
 -- What is counted over the lists, and that it is few enough for a number of 64 bits.
 -- Assumes nothing.
-use Rattle.std.proofs.Common.{◌≡◌, ◌≢◌, ◌↔◌, ℕ, zero, suc, ◌+◌, ◌-◌, ◌*◌, ◌/◌, ◌%◌, ◌^◌, ◌≤◌, ◌<◌, ◌⊎◌, inl, inr, Bool, true, false, ◌&&◌, cond, eqb, ltb, List, [], ◌∷◌, ◌++◌, map, length, get_or, bit_and, refl, sym, ap, ◌∙◌, arith, length-append}
+use Rattle.std.proofs.Common.{◌≡◌, ◌≢◌, ◌↔◌, ℕ, zero, suc, ◌+◌, ◌-◌, ◌*◌, ◌/◌, ◌%◌, ◌^◌, ◌≤◌, ◌<◌, ◌⊎◌, inl, inr, Bool, true, false, ◌&&◌, cond, eqb, ltb, List, [], ◌∷◌, ◌++◌, map, length, get_or, set, replicate, Option, Some, None, subst, bit_and, get_or-set_other, get_or-set_same, refl, sym, ap, ◌∙◌, arith, length-append}
+use Rattle.std.specs.Option.{MatchOption, is_some}
 use Rattle.std.proofs.lemmas.Bool.{cases_lt, ne_eqb}
 use Rattle.std.proofs.lemmas.Bool.Decides.{nat_tests}
 use Rattle.std.proofs.lemmas.List.{length-map}
 use borrow.Author.Tests.{eq-eqb}
+use Rattle.std.proofs.Math.ListN.{length-set, length-replicate}
 use native.Mathlib.Decide.{ℕ_discrete}
 use native.Mathlib.Nat.{pow-le-pow_right}
 use mathlib.Core.List.Memᴰ
@@ -14,7 +16,7 @@ use Rattle.paper.specs.Multiset.{bit, keep, sub_multisets, count}
 use Rattle.paper.specs.Grammar.{Rule, Grammar, IsGrammar, IsNonterminal, rule_count, left, members, symbols}
 use Rattle.paper.specs.Image.{grammar_of}
 use Rattle.paper.specs.Entry.{Entry, Found, may_take, finished}
-use Rattle.paper.specs.Sheet.{Sheet, rest_of, sum, many, sum_below, entries, list_at, start_steps, scan_steps, predict_steps, waiting, complete_steps, steps}
+use Rattle.paper.specs.Sheet.{Sheet, is_top, tops, rest_of, sum, many, sum_below, entries, list_at, start_steps, scan_steps, predict_steps, waiting, complete_steps, steps}
 use Rattle.paper.specs.Price.{rests, entries_bound}
 use Rattle.paper.specs.Building.{sheet_of}
 use Rattle.paper.specs.Demands.{IsFit}
@@ -26,11 +28,13 @@ use Rattle.paper.proofs.Multiset.{bit_le}
 use Rattle.paper.proofs.SheetBounds.{entries_bound_lem}
 use Rattle.paper.proofs.Sums.{sum_le, sum_at_most, sum_places, sum_map, many_le, length_keep, sum_below_le}
 use Rattle.paper.proofs.Universe.{found_possible}
-use Rattle.tables.specs.Machine.{may_be_taken}
+use Rattle.tables.specs.Machine.{may_be_taken, Leaves}
 use Rattle.sheet.specs.Counting.{rules_with, predictions_of, predict_at, waiting_at, ends, ended_at, complete_at, scan_at, steps_at}
 use Rattle.sheet.specs.Growing.{IsListOf}
 use Rattle.tables.specs.Masks.{entry_with}
+use Rattle.tables.proofs.Masks.{finished_byte}
 use Rattle.sheet.proofs.Listed.{Says}
+use Rattle.sheet.proofs.Places.{zeros}
 use Rattle.sheet.proofs.Growth.{mem_place, entry_at, list_length}
 use Rattle.sheet.proofs.Tally.{below_same, below_next, below_add, below_none, below_rises, below_at_most, below_between, sum_same, sum_add, sum_none, sum_by_number}
 
@@ -149,6 +153,10 @@ list_sum {g} {row} {cells} {j} is e f = rw (e ∙ list_length is) (sym (sum_plac
 pub counted_few : (n : ℕ) (p : ℕ → Bool) → sum_below n (λ k. bit (p k)) ≤ n
 counted_few n p = omega (arith, below_at_most 1 n (λ k. bit (p k)) (λ j l. bit_le (p j)))
 
+-- how many complete steps the finished entries with this number give
+abbrev pub completed_by : Grammar → List ℕ → ℕ → ℕ → ℕ
+completed_by g row j c = ended_at g row j c * waiting_at g row (c / 64) (c % 64)
+
 module _ {image row : List ℕ} (fit : IsFit image row) where
   abbrev g : Grammar
   g = grammar_of image
@@ -176,11 +184,7 @@ module _ {image row : List ℕ} (fit : IsFit image row) where
 
   -- ---- the complete steps by origin and left symbol
 
-  -- how many complete steps the finished entries with this number give
-  abbrev pub completed_by : ℕ → ℕ → ℕ
-  completed_by j c = ended_at g row j c * waiting_at g row (c / 64) (c % 64)
-
-  pub complete_is : (j : ℕ) → sum_below (64 * (j + 1)) (completed_by j) ≡ complete_at g row j
+  pub complete_is : (j : ℕ) → sum_below (64 * (j + 1)) (completed_by g row j) ≡ complete_at g row j
   unfolding complete_at ended_at ends waiting_at waiting
   complete_is j =
       let list : List Entry = list_at (sheet_of g row) j in
@@ -209,8 +213,8 @@ module _ {image row : List ℕ} (fit : IsFit image row) where
           let b : (64 * f.origin + left g f.rule) / 64 ≡ f.origin = omega arith in
           rw (a, b) (length_keep (λ e. may_take g (left g f.rule) e.rest) (list_at (sheet_of g row) f.origin))
 
-  pub partly_few : (j c : ℕ) → c ≤ 64 * (j + 1) → sum_below c (completed_by j) ≤ 67108864 * 67108864
-  partly_few j c l = omega (arith, below_rises c (64 * (j + 1)) (completed_by j) l, complete_is j, complete_few j)
+  pub partly_few : (j c : ℕ) → c ≤ 64 * (j + 1) → sum_below c (completed_by g row j) ≤ 67108864 * 67108864
+  partly_few j c l = omega (arith, below_rises c (64 * (j + 1)) (completed_by g row j) l, complete_is j, complete_few j)
 
   -- ---- all lists
 
@@ -281,19 +285,138 @@ module _ {g : Grammar} {h m set steps : ℕ} (v : IsPredicted g h m set steps) w
   pub predicted_last : set ≡ 0 → steps ≡ predictions_of g (rest_of (members g h) m)
   predicted_last e = let t = rw e at v.total in omega (arith, t, rules_none g)
 
--- what is counted over the first n entries of list j
-abbrev pub tally : Grammar → List ℕ → ℕ → (Entry → ℕ) → ℕ → ℕ
-tally g row j f n = sum_below n (λ k. f (entry_at g row j k))
+-- s is what is counted over the first n entries of list j, where f says what each counts for
+pub record Tallied (grammar : Grammar) (row : List ℕ) (j : ℕ) (f : Entry → ℕ) (n s : ℕ) : Type 0 where
+  pub is : s ≡ sum_below n (λ k. f (entry_at grammar row j k))
 
--- one more
-pub tally_more : {image row : List ℕ} {j n h o m : ℕ} → Says image row j n h o m → (f : Entry → ℕ)
-    → tally (grammar_of image) row j f (n + 1) ≡ tally (grammar_of image) row j f n + f (entry_with (grammar_of image) h o m)
-tally_more {image} {row} {j} {n} s f = below_next n (λ k. f (entry_at (grammar_of image) row j k)) ∙ ap (λ e. tally (grammar_of image) row j f n + f e) s.entry_is
+pub tally_first : {grammar : Grammar} {row : List ℕ} {j : ℕ} {f : Entry → ℕ} → Tallied grammar row j f 0 0
+unfolding sum_below
+tally_first = record { is = refl }
 
--- at the end
-pub tally_all : {g : Grammar} {row cells : List ℕ} {j n : ℕ} → IsListOf g row j cells → n ≡ length cells → (f : Entry → ℕ) → tally g row j f n ≡ sum f (list_at (sheet_of g row) j)
-tally_all is e f = list_sum is e f
+module _ {image row : List ℕ} {j n h o m : ℕ} {f : Entry → ℕ} (says : Says image row j n h o m) {s : ℕ} (v : Tallied (grammar_of image) row j f n s) where
+  pub tally_more : (r : ℕ) → r ≡ f (entry_with (grammar_of image) h o m) → Tallied (grammar_of image) row j f (n + 1) (s + r)
+  tally_more r e = record {
+    is = sym (below_next n (λ k. f (entry_at (grammar_of image) row j k)) ∙ (ap (λ a. a + f (entry_at (grammar_of image) row j n)) (sym v.is) ∙ ap (λ a. s + a) (ap f says.entry_is ∙ sym e)));
+  }
+
+  pub tally_none : f (entry_with (grammar_of image) h o m) ≡ 0 → Tallied (grammar_of image) row j f (n + 1) s
+  tally_none e = record { is = let t = (tally_more 0 (sym e)).is in omega arith }
 
 -- it is few if each counts for few
-pub tally_few : (g : Grammar) (row : List ℕ) (j : ℕ) (f : Entry → ℕ) (c n : ℕ) → ((e : Entry) → f e ≤ c) → tally g row j f n ≤ n * c
-tally_few g row j f c n h = below_at_most c n (λ k. f (entry_at g row j k)) (λ k l. h (entry_at g row j k))
+pub tally_few : {grammar : Grammar} {row : List ℕ} {j n s : ℕ} {f : Entry → ℕ} → Tallied grammar row j f n s → (c : ℕ) → ((e : Entry) → f e ≤ c) → s ≤ n * c
+tally_few {grammar} {row} {j} {n} {f = f} v c h = omega (arith, v.is, below_at_most c n (λ k. f (entry_at grammar row j k)) (λ k l. h (entry_at grammar row j k)))
+
+pub tally_last : {grammar : Grammar} {row cells : List ℕ} {j n s : ℕ} {f : Entry → ℕ} → IsListOf grammar row j cells → n ≡ length cells → Tallied grammar row j f n s
+    → s ≡ sum f (list_at (sheet_of grammar row) j)
+tally_last {f = f} is e v = v.is ∙ list_sum is e f
+
+-- what an entry counts for: its predict steps; 1 if it waits for x, is finished with the number c, or is a top
+abbrev pub predicts : Grammar → Entry → ℕ
+predicts grammar e = predictions_of grammar e.rest
+
+abbrev pub waits : Grammar → ℕ → Entry → ℕ
+waits grammar x e = bit (may_take grammar x e.rest)
+
+abbrev pub ended : Grammar → ℕ → Entry → ℕ
+ended grammar c e = bit (ends grammar c e)
+
+abbrev pub topped : Grammar → Entry → ℕ
+topped grammar e = bit (is_top grammar e)
+
+pub predict_last : {grammar : Grammar} {row cells : List ℕ} {j n s : ℕ} → IsListOf grammar row j cells → n ≡ length cells → Tallied grammar row j (predicts grammar) n s
+    → s ≡ predict_at grammar row j
+unfolding predict_at
+predict_last is e v = tally_last is e v
+
+pub predict_small : {image row cells : List ℕ} {j n s r : ℕ} (rest : List ℕ) → IsFit image row → IsListOf (grammar_of image) row j cells → n ≤ length cells
+    → Tallied (grammar_of image) row j (predicts (grammar_of image)) n s → r ≡ predictions_of (grammar_of image) rest → s + r ≤ 6442451040
+predict_small {image} {row} {j = j} rest fit is l v e =
+    omega (arith, tally_few v 96 (λ e. predictions_few (grammar_of image) fit.is_grammar e.rest), predictions_few (grammar_of image) fit.is_grammar rest, list_few fit j, list_length is)
+
+-- ---- who waits
+
+pub waiting_last : {grammar : Grammar} {row cells : List ℕ} {i n s : ℕ} (x : ℕ) → IsListOf grammar row i cells → n ≡ length cells → Tallied grammar row i (waits grammar x) n s
+    → s ≡ waiting_at grammar row i x
+unfolding waiting_at
+waiting_last x is e v = tally_last is e v
+
+pub waiting_small : {grammar : Grammar} {row : List ℕ} {i n s : ℕ} (x : ℕ) → Tallied grammar row i (waits grammar x) n s → s ≤ n
+waiting_small {grammar} x v = omega (arith, tally_few v 1 (λ e. bit_le (may_take grammar x e.rest)))
+
+-- what taking answers says whether the symbol may be taken
+pub taken_is : (grammar : Grammar) (h m x : ℕ) (o : Option ℕ) {b : Bool} → MatchOption o (may_be_taken grammar h m x ≡ false) (Leaves grammar h x m) → b ≡ is_some o
+    → may_be_taken grammar h m x ≡ b
+taken_is grammar h m x None k e = k ∙ sym e
+taken_is grammar h m x (Some n) k e = k.may ∙ sym e
+
+-- ---- the finished entries by their numbers
+
+-- The counts are those of the first n entries of list j.
+pub record IsEnding (grammar : Grammar) (row : List ℕ) (j n : ℕ) (counts : List ℕ) : Type 0 where
+  pub long : length counts ≡ 4160
+  pub are : (c : ℕ) → c < 4160 → Tallied grammar row j (ended grammar c) n (get_or counts c 0)
+
+pub ending_first : (grammar : Grammar) (row : List ℕ) (j : ℕ) → IsEnding grammar row j 0 (replicate 4160 0)
+ending_first grammar row j =
+    record { long = length-replicate {A = ℕ} 4160 0; are = λ c l. subst (Tallied grammar row j (ended grammar c) 0) (sym (zeros 4160 c)) tally_first }
+
+module _ {image row : List ℕ} (fit : IsFit image row) {j n h o m : ℕ} (among : j ≤ length row) (says : Says image row j n h o m) where
+  pub number_small : (i x : ℕ) → i ≡ o → x ≡ left (grammar_of image) h → 64 * i + x < 4160
+  number_small i x e f =
+      let is = fit.is_grammar.left_is h says.is_rule in
+      omega (arith, is.below, fit.is_grammar.few_symbols, says.origin_le, fit.short)
+
+  module _ {counts : List ℕ} (v : IsEnding (grammar_of image) row j n counts) where
+    -- a finished entry
+    pub ending_more : (a : ℕ) → m ≡ 0 → a < 4160 → a ≡ 64 * o + left (grammar_of image) h → IsEnding (grammar_of image) row j (n + 1) (set counts a (get_or counts a 0 + 1))
+    unfolding ends
+    ending_more a z small e = record { long = length-set counts a (get_or counts a 0 + 1) ∙ v.long; are = λ c l. go c l (ℕ_discrete c a) }
+      where
+        done : finished (entry_with (grammar_of image) h o m) ≡ true
+        done = (finished_byte (grammar_of image) h o says.byte).1 z
+
+        this : eqb (64 * o + left (grammar_of image) h) a ≡ true
+        this = eq-eqb (64 * o + left (grammar_of image) h) a (sym e)
+
+        here : Tallied (grammar_of image) row j (ended (grammar_of image) a) (n + 1) (get_or (set counts a (get_or counts a 0 + 1)) a 0)
+        here =
+            subst (Tallied (grammar_of image) row j (ended (grammar_of image) a) (n + 1)) (sym (get_or-set_same counts a (get_or counts a 0 + 1) 0 (omega (arith, v.long))))
+            (tally_more says (v.are a small) 1 (rw (done, this) refl))
+
+        go : (c : ℕ) → c < 4160 → Dec (c ≡ a) → Tallied (grammar_of image) row j (ended (grammar_of image) c) (n + 1) (get_or (set counts a (get_or counts a 0 + 1)) c 0)
+        go c l (yes f) = subst (λ c. Tallied (grammar_of image) row j (ended (grammar_of image) c) (n + 1) (get_or (set counts a (get_or counts a 0 + 1)) c 0)) (sym f) here
+        go c l (no ne) =
+            let other : eqb (64 * o + left (grammar_of image) h) c ≡ false = ne_eqb (64 * o + left (grammar_of image) h) c (λ f. ne (sym (e ∙ f))) in
+            subst (Tallied (grammar_of image) row j (ended (grammar_of image) c) (n + 1)) (sym (get_or-set_other counts a c (get_or counts a 0 + 1) 0 ne))
+            (tally_none says (v.are c l) (rw (done, other) refl))
+
+    -- one that is not finished
+    pub ending_past : (m ≡ 0 → ⊥) → IsEnding (grammar_of image) row j (n + 1) counts
+    unfolding ends
+    ending_past ne = record { long = v.long; are = λ c l. tally_none says (v.are c l) (rw not_done refl) }
+      where
+        go : (b : Bool) → finished (entry_with (grammar_of image) h o m) ≡ b → b ≡ false
+        go true e = absurd (ne ((finished_byte (grammar_of image) h o says.byte).0 e))
+        go false e = refl
+
+        not_done : finished (entry_with (grammar_of image) h o m) ≡ false
+        not_done = go _ refl
+
+pub ending_few : {image row cells : List ℕ} {j n : ℕ} {counts : List ℕ} → IsFit image row → IsListOf (grammar_of image) row j cells → n ≤ length cells → IsEnding (grammar_of image) row j n counts
+    → (c : ℕ) → c < 4160 → get_or counts c 0 < 67108864
+ending_few {image} {row} {j = j} fit is k v c l = omega (arith, tally_few (v.are c l) 1 (λ e. bit_le (ends (grammar_of image) c e)), list_few fit j, list_length is)
+
+pub ending_last : {grammar : Grammar} {row cells : List ℕ} {j n : ℕ} {counts : List ℕ} → IsListOf grammar row j cells → n ≡ length cells → IsEnding grammar row j n counts
+    → (c : ℕ) → c < 4160 → get_or counts c 0 ≡ ended_at grammar row j c
+unfolding ended_at
+ending_last is e v c l = tally_last is e (v.are c l)
+
+-- ---- the tops
+
+pub tops_last : {grammar : Grammar} {row cells : List ℕ} {j n s : ℕ} → j ≡ length row → IsListOf grammar row j cells → n ≡ length cells → Tallied grammar row j (topped grammar) n s
+    → s ≡ tops grammar row (sheet_of grammar row)
+unfolding tops
+tops_last {grammar} {row} z is e v = tally_last is e v ∙ ap (λ j. many (is_top grammar) (list_at (sheet_of grammar row) j)) z
+
+pub tops_small : {grammar : Grammar} {row : List ℕ} {j n s : ℕ} → Tallied grammar row j (topped grammar) n s → s ≤ n
+tops_small {grammar} v = omega (arith, tally_few v 1 (λ e. bit_le (is_top grammar e)))
