@@ -1,6 +1,6 @@
 -- What is counted over the lists, and that it is few enough for a number of 64 bits.
 -- Assumes nothing.
-use Rattle.std.proofs.Common.{◌≡◌, ◌≢◌, ◌↔◌, ℕ, zero, suc, ◌+◌, ◌-◌, ◌*◌, ◌/◌, ◌%◌, ◌^◌, ◌≤◌, ◌<◌, ◌⊎◌, inl, inr, Bool, true, false, ◌&&◌, cond, eqb, ltb, List, [], ◌∷◌, ◌++◌, map, length, get_or, set, replicate, Option, Some, None, subst, bit_and, get_or-set_other, get_or-set_same, refl, sym, ap, ◌∙◌, arith, length-append}
+use Rattle.std.proofs.Common.{◌≡◌, ◌≢◌, ◌↔◌, ℕ, zero, suc, ◌+◌, ◌-◌, ◌*◌, ◌/◌, ◌%◌, ◌^◌, ◌≤◌, ◌<◌, ◌⊎◌, inl, inr, Bool, true, false, eqb, ltb, List, [], ◌∷◌, map, length, get_or, set, replicate, Option, Some, None, subst, bit_and, get_or-set_other, get_or-set_same, refl, sym, ap, ◌∙◌, arith, length-append}
 use Rattle.std.specs.Option.{MatchOption, is_some}
 use Rattle.std.proofs.lemmas.Bool.{cases_lt, ne_eqb}
 use Rattle.std.proofs.lemmas.Bool.Decides.{nat_tests}
@@ -9,13 +9,12 @@ use borrow.Author.Tests.{eq-eqb}
 use Rattle.std.proofs.Math.ListN.{length-set, length-replicate}
 use native.Mathlib.Decide.{ℕ_discrete}
 use native.Mathlib.Nat.{pow-le-pow_right}
-use mathlib.Core.List.Memᴰ
 use mathlib.Core.List.{Memᴰ}
 use Rattle.paper.specs.Bits.{bit_at}
 use Rattle.paper.specs.Multiset.{bit, keep, sub_multisets, count}
-use Rattle.paper.specs.Grammar.{Rule, Grammar, IsGrammar, IsNonterminal, rule_count, left, members, symbols}
+use Rattle.paper.specs.Grammar.{Rule, Grammar, IsGrammar, IsNonterminal, rule_count, left, members}
 use Rattle.paper.specs.Image.{grammar_of}
-use Rattle.paper.specs.Entry.{Entry, Found, may_take, finished}
+use Rattle.paper.specs.Entry.{Entry, may_take, finished}
 use Rattle.paper.specs.Sheet.{Sheet, is_top, tops, rest_of, sum, many, sum_below, entries, list_at, start_steps, scan_steps, predict_steps, waiting, complete_steps, steps}
 use Rattle.paper.specs.Price.{rests, entries_bound}
 use Rattle.paper.specs.Building.{sheet_of}
@@ -26,9 +25,9 @@ use Rattle.paper.proofs.Demands.{sheet_exists}
 use Rattle.paper.proofs.Lists.{keep_mem}
 use Rattle.paper.proofs.Multiset.{bit_le}
 use Rattle.paper.proofs.SheetBounds.{entries_bound_lem}
-use Rattle.paper.proofs.Sums.{sum_le, sum_at_most, sum_places, sum_map, many_le, length_keep, sum_below_le}
+use Rattle.paper.proofs.Sums.{sum_le, sum_at_most, sum_places, sum_map, many_le, length_keep}
 use Rattle.paper.proofs.Universe.{found_possible}
-use Rattle.tables.specs.Machine.{may_be_taken, Leaves}
+use Rattle.tables.specs.Machine.{IsByte, may_be_taken, Leaves}
 use Rattle.sheet.specs.Counting.{rules_with, predictions_of, predict_at, waiting_at, ends, ended_at, complete_at, scan_at, steps_at}
 use Rattle.sheet.specs.Growing.{IsListOf}
 use Rattle.tables.specs.Masks.{entry_with}
@@ -36,7 +35,7 @@ use Rattle.tables.proofs.Masks.{finished_byte}
 use Rattle.sheet.proofs.Listed.{Says}
 use Rattle.sheet.proofs.Places.{zeros}
 use Rattle.sheet.proofs.Growth.{mem_place, entry_at, list_length}
-use Rattle.sheet.proofs.Tally.{below_same, below_next, below_add, below_none, below_rises, below_at_most, below_between, sum_same, sum_add, sum_none, sum_by_number}
+use Rattle.sheet.proofs.Tally.{below_same, below_next, below_add, below_rises, below_at_most, below_between, sum_same, sum_add, sum_none, sum_by_number}
 
 -- ---- few enough
 
@@ -55,8 +54,12 @@ subs_few (a ∷ s) =
 rests_few : (g : Grammar) → IsGrammar g → rests g ≤ 96 * 256
 unfolding rests
 rests_few g is =
-    omega (arith, sum_le (λ r. length (sub_multisets r.members)) (λ r. 256) g.rules (λ r m. one r (mem_place (record { left = 0; members = [] }) g.rules m)),
-      sum_at_most (λ (r : Rule). 256) 256 g.rules (λ r. omega arith), is.few_rules)
+    omega (
+      arith,
+      sum_le (λ r. length (sub_multisets r.members)) (λ r. 256) g.rules (λ r m. one r (mem_place (record { left = 0; members = [] }) g.rules m)),
+      sum_at_most (λ (r : Rule). 256) 256 g.rules (λ r. omega arith),
+      is.few_rules,
+    )
   where
     one : (r : Rule) → (k : ℕ) × (k < length g.rules) × (get_or g.rules k (record { left = 0; members = [] }) ≡ r) → length (sub_multisets r.members) ≤ 256
     one r (k, l, e) = rw (← e) (let few = is.few_members k l in let powers : 2 ^ length (members g k) ≤ 2 ^ 8 = grind (arith, pow-le-pow_right) in omega (arith, subs_few (members g k), powers))
@@ -99,9 +102,9 @@ rules_between g {x} {from} {to} low since high beyond k l =
     let rise = firsts_rise g low beyond k in
     sym (sum_places (λ r. bit (eqb r.left x)) (record { left = 0; members = [] }) g.rules
     ∙ below_between (rule_count g) from to (λ h. bit (eqb (left g h) x)) rise
-      (λ h p. ap bit (ne_eqb (left g h) x (λ e. omega (arith, low h p))))
-      (λ h p q. ap bit (eq-eqb (left g h) x (omega (arith, since h p (omega arith), high h q))))
-      (λ h p q. ap bit (ne_eqb (left g h) x (λ e. omega (arith, beyond h q p)))) l)
+    (λ h p. ap bit (ne_eqb (left g h) x (λ e. omega (arith, low h p))))
+    (λ h p q. ap bit (eq-eqb (left g h) x (omega (arith, since h p (omega arith), high h q))))
+    (λ h p q. ap bit (ne_eqb (left g h) x (λ e. omega (arith, beyond h q p)))) l)
 
 -- the rules whose left symbol is in the set
 abbrev pub rules_in : Grammar → ℕ → ℕ
@@ -170,7 +173,7 @@ module _ {image row : List ℕ} (fit : IsFit image row) where
   predict_few j =
       omega (arith, sum_at_most (λ e. predictions_of g e.rest) 96 (list_at (sheet_of g row) j) (λ e. predictions_few g fit.is_grammar e.rest), list_few fit j)
 
-  complete_few : (j : ℕ) → complete_at g row j ≤ 67108864 * 67108864
+  pub complete_few : (j : ℕ) → complete_at g row j ≤ 67108864 * 67108864
   unfolding complete_at waiting
   complete_few j =
       let completions : Entry → ℕ = λ f. length (keep (λ e. may_take g (left g f.rule) e.rest) (list_at (sheet_of g row) f.origin)) in
@@ -205,7 +208,7 @@ module _ {image row : List ℕ} (fit : IsFit image row) where
 
       one : (f : Entry) → Memᴰ f (list_at (sheet_of g row) j)
           → length (keep (λ e. may_take g (left g f.rule) e.rest) (list_at (sheet_of g row) f.origin))
-            ≡ many (λ e. may_take g ((64 * f.origin + left g f.rule) % 64) e.rest) (list_at (sheet_of g row) ((64 * f.origin + left g f.rule) / 64))
+          ≡ many (λ e. may_take g ((64 * f.origin + left g f.rule) % 64) e.rest) (list_at (sheet_of g row) ((64 * f.origin + left g f.rule) / 64))
       one f m =
           let p = possible f m in
           let under : left g f.rule < 64 = p.1 in
@@ -253,9 +256,14 @@ module _ {image row : List ℕ} (fit : IsFit image row) where
       let p = over_lists predict in
       let c = over_lists complete ∙ sym (sum_map (sum completions) (keep finished) (sheet_of g row)) in
       let e : length row + 1 ≡ suc (length row) = omega arith in
-      rw e (omega (arith, p, c, scan_all,
+      rw e (omega (
+        arith,
+        p,
+        c,
+        scan_all,
         below_add (suc (length row)) (λ j. predict (list_at (sheet_of g row) j) + complete (list_at (sheet_of g row) j)) (scan_at g row),
-        below_add (suc (length row)) (λ j. predict (list_at (sheet_of g row) j)) (λ j. complete (list_at (sheet_of g row) j))))
+        below_add (suc (length row)) (λ j. predict (list_at (sheet_of g row) j)) (λ j. complete (list_at (sheet_of g row) j)),
+      ))
 
 -- ---- the loops
 
@@ -349,6 +357,14 @@ pub taken_is : (grammar : Grammar) (h m x : ℕ) (o : Option ℕ) {b : Bool} →
 taken_is grammar h m x None k e = k ∙ sym e
 taken_is grammar h m x (Some n) k e = k.may ∙ sym e
 
+-- an entry with a byte that is not 0 is not finished
+unfinished : (grammar : Grammar) (h o : ℕ) {m : ℕ} → IsByte grammar h m → m ≢ 0 → finished (entry_with grammar h o m) ≡ false
+unfinished grammar h o {m} p ne = go (finished (entry_with grammar h o m)) (finished_byte grammar h o p).0
+  where
+    go : (b : Bool) → (b ≡ true → m ≡ 0) → b ≡ false
+    go true e = absurd (ne (e refl))
+    go false e = refl
+
 -- ---- the finished entries by their numbers
 
 -- The counts are those of the first n entries of list j.
@@ -391,16 +407,9 @@ module _ {image row : List ℕ} (fit : IsFit image row) {j n h o m : ℕ} (among
             (tally_none says (v.are c l) (rw (done, other) refl))
 
     -- one that is not finished
-    pub ending_past : (m ≡ 0 → ⊥) → IsEnding (grammar_of image) row j (n + 1) counts
+    pub ending_past : m ≢ 0 → IsEnding (grammar_of image) row j (n + 1) counts
     unfolding ends
-    ending_past ne = record { long = v.long; are = λ c l. tally_none says (v.are c l) (rw not_done refl) }
-      where
-        go : (b : Bool) → finished (entry_with (grammar_of image) h o m) ≡ b → b ≡ false
-        go true e = absurd (ne ((finished_byte (grammar_of image) h o says.byte).0 e))
-        go false e = refl
-
-        not_done : finished (entry_with (grammar_of image) h o m) ≡ false
-        not_done = go _ refl
+    ending_past ne = record { long = v.long; are = λ c l. tally_none says (v.are c l) (rw (unfinished (grammar_of image) h o says.byte ne) refl) }
 
 pub ending_few : {image row cells : List ℕ} {j n : ℕ} {counts : List ℕ} → IsFit image row → IsListOf (grammar_of image) row j cells → n ≤ length cells → IsEnding (grammar_of image) row j n counts
     → (c : ℕ) → c < 4160 → get_or counts c 0 < 67108864
@@ -420,3 +429,55 @@ tops_last {grammar} {row} z is e v = tally_last is e v ∙ ap (λ j. many (is_to
 
 pub tops_small : {grammar : Grammar} {row : List ℕ} {j n s : ℕ} → Tallied grammar row j (topped grammar) n s → s ≤ n
 tops_small {grammar} v = omega (arith, tally_few v 1 (λ e. bit_le (is_top grammar e)))
+
+module _ {image row : List ℕ} {j n h o m : ℕ} (says : Says image row j n h o m) {s : ℕ} (v : Tallied (grammar_of image) row j (topped (grammar_of image)) n s) where
+  pub tops_more : m ≡ 0 → o ≡ 0 → eqb (left (grammar_of image) h) (grammar_of image).start ≡ true → Tallied (grammar_of image) row j (topped (grammar_of image)) (n + 1) (s + 1)
+  unfolding is_top
+  tops_more z y e = tally_more says v 1 (rw ((finished_byte (grammar_of image) h o says.byte).1 z, eq-eqb o 0 y, e) refl)
+
+  pub tops_unfinished : m ≢ 0 → Tallied (grammar_of image) row j (topped (grammar_of image)) (n + 1) s
+  unfolding is_top
+  tops_unfinished ne = tally_none says v (rw (unfinished (grammar_of image) h o says.byte ne) refl)
+
+  pub tops_later : m ≡ 0 → o ≢ 0 → Tallied (grammar_of image) row j (topped (grammar_of image)) (n + 1) s
+  unfolding is_top
+  tops_later z ne = tally_none says v (rw ((finished_byte (grammar_of image) h o says.byte).1 z, ne_eqb o 0 ne) refl)
+
+  pub tops_other : m ≡ 0 → o ≡ 0 → eqb (left (grammar_of image) h) (grammar_of image).start ≡ false → Tallied (grammar_of image) row j (topped (grammar_of image)) (n + 1) s
+  unfolding is_top
+  tops_other z y e = tally_none says v (rw ((finished_byte (grammar_of image) h o says.byte).1 z, eq-eqb o 0 y, e) refl)
+
+-- ---- the complete steps
+
+pub completed_none : (grammar : Grammar) (row : List ℕ) (j : ℕ) → 0 ≡ sum_below 0 (completed_by grammar row j)
+unfolding sum_below
+completed_none grammar row j = refl
+
+pub completed_more : (grammar : Grammar) (row : List ℕ) (j c : ℕ) {s a w : ℕ} → s ≡ sum_below c (completed_by grammar row j) → a ≡ ended_at grammar row j c
+    → w ≡ waiting_at grammar row (c / 64) (c % 64) → s + a * w ≡ sum_below (c + 1) (completed_by grammar row j)
+completed_more grammar row j c d e f = let t = below_next c (completed_by grammar row j) in cc
+
+pub completed_past : (grammar : Grammar) (row : List ℕ) (j c : ℕ) {s a : ℕ} → s ≡ sum_below c (completed_by grammar row j) → a ≡ ended_at grammar row j c → a ≡ 0
+    → s ≡ sum_below (c + 1) (completed_by grammar row j)
+completed_past grammar row j c d e z =
+    let w : ℕ = waiting_at grammar row (c / 64) (c % 64) in
+    let zero_is : ended_at grammar row j c * w ≡ 0 = ap (λ n. n * w) (sym e ∙ z) ∙ omega arith in
+    omega (arith, d, zero_is, below_next c (completed_by grammar row j))
+
+-- ---- the steps of one list and of all
+
+pub steps_next : (grammar : Grammar) (row : List ℕ) (j a : ℕ) {s r : ℕ} → s ≡ a + sum_below j (steps_at grammar row) → r ≡ steps_at grammar row j
+    → s + r ≡ a + sum_below (j + 1) (steps_at grammar row)
+steps_next grammar row j a d e = omega (arith, d, e, below_next j (steps_at grammar row))
+
+pub steps_none : (grammar : Grammar) (row : List ℕ) → sum_below 0 (steps_at grammar row) ≡ 0
+unfolding sum_below
+steps_none grammar row = refl
+
+pub rules_few : (grammar : Grammar) → IsGrammar grammar → (x : ℕ) → rules_with grammar x ≤ 96
+unfolding rules_with
+rules_few grammar is x = omega (arith, many_le (λ r. eqb r.left x) grammar.rules, is.few_rules)
+
+pub steps_sum : (grammar : Grammar) (row : List ℕ) (j : ℕ) → steps_at grammar row j ≡ predict_at grammar row j + complete_at grammar row j + scan_at grammar row j
+unfolding steps_at
+steps_sum grammar row j = refl

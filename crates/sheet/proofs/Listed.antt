@@ -1,16 +1,16 @@
 -- The lists of the finished sheet among its words, and what their cells say.
 -- Assumes nothing.
-use Rattle.std.proofs.Common.{◌≡◌, ℕ, suc, ◌+◌, ◌-◌, ◌*◌, ◌≤◌, ◌<◌, List, [], ◌∷◌, ◌++◌, map, length, get_or, take, drop, refl, sym, ap, ◌∙◌, subst, arith, length-append}
-use Rattle.std.proofs.Math.Seq.{slice, take-take, take_at, drop_at, take-append-le}
+use Rattle.std.proofs.Common.{◌≡◌, ℕ, suc, ◌+◌, ◌-◌, ◌*◌, ◌≤◌, ◌<◌, List, [], ◌∷◌, map, length, get_or, take, drop, refl, sym, ap, ◌∙◌, subst, arith, length-append}
+use Rattle.std.proofs.Math.Seq.{slice, take-take, take_at, drop_at}
 use Rattle.std.proofs.lemmas.List.{length-map, take-map, drop-map}
 use Rattle.std.proofs.lemmas.Slice.{between_is}
 use lib.ListN.{get_or-append}
 use Rattle.paper.specs.Grammar.{Grammar, rule_count, members}
 use Rattle.paper.specs.Image.{grammar_of}
 use Rattle.paper.specs.Entry.{Entry, Found}
-use Rattle.paper.specs.Sheet.{Sheet, sum, word, mask, rest_of, entries, list_at}
+use Rattle.paper.specs.Sheet.{Sheet, sum, word, mask, entries, list_at}
 use Rattle.paper.specs.Building.{first_lists, sheet_of}
-use Rattle.paper.specs.Outcome.{sheet_words, starts_from, padded}
+use Rattle.paper.specs.Outcome.{sheet_words, starts_from}
 use Rattle.paper.specs.Demands.{IsFit}
 use Rattle.paper.proofs.Building.{sheet_lists}
 use Rattle.paper.proofs.Universe.{found_possible}
@@ -20,7 +20,7 @@ use Rattle.tables.proofs.Masks.{found_byte, proper_byte}
 use Rattle.sheet.specs.Cells.{key}
 use Rattle.sheet.specs.Growing.{IsListOf}
 use Rattle.sheet.specs.Grown.{IsBuilt}
-use Rattle.sheet.proofs.Places.{words_append, begins, words_more, starts_at, length_starts, entries_list, entries_sheet}
+use Rattle.sheet.proofs.Places.{words_append, begins, words_more, starts_at, length_starts, entries_sheet}
 use Rattle.sheet.proofs.Growth.{entries_rise, entry_at, list_length, cell_word, entry_found}
 
 -- a sheet has as many words as entries
@@ -74,10 +74,10 @@ module _ {image row words starts : List ℕ} (fit : IsFit image row) (built : Is
   keys_listed : IsListOf (grammar_of image) row i (slice (get_or starts i 0) (get_or starts (i + 1) 0) words)
   keys_listed = rw (start_is, end_is) (record {
     keys_are =
-      let g = grammar_of image in
-      let first : Sheet = first_lists g row i in
-      sym (drop-map key from (take to words)) ∙ (ap (drop from) (words_to ∙ words_more g row i among)
-      ∙ drop_at (sheet_words g first) (map (word g) (list_at (sheet_of g row) i)) from (length_words g first));
+        let g = grammar_of image in
+        let first : Sheet = first_lists g row i in
+        sym (drop-map key from (take to words)) ∙ (ap (drop from) (words_to ∙ words_more g row i among)
+        ∙ drop_at (sheet_words g first) (map (word g) (list_at (sheet_of g row) i)) from (length_words g first));
   })
 
   pub listed : IsListOf (grammar_of image) row i (take (get_or starts (i + 1) 0 - get_or starts i 0) (drop (get_or starts i 0) words))

@@ -1,9 +1,8 @@
 -- Sums over places, and over a list by a number of each element.
 -- Assumes nothing.
-use Rattle.std.proofs.Common.{◌≡◌, ℕ, zero, suc, ◌+◌, ◌-◌, ◌*◌, ◌≤◌, ◌<◌, ◌⊎◌, inl, inr, Bool, true, false, ◌&&◌, cond, eqb, List, [], ◌∷◌, length, get_or, refl, sym, ap, ◌∙◌, arith, add-one}
+use Rattle.std.proofs.Common.{◌≡◌, ℕ, zero, suc, ◌+◌, ◌-◌, ◌*◌, ◌≤◌, ◌<◌, ◌⊎◌, inl, inr, Bool, true, false, ◌&&◌, cond, eqb, List, [], ◌∷◌, refl, sym, ap, ◌∙◌, arith, add-one}
 use Rattle.std.proofs.lemmas.Bool.{cases_lt, ne_eqb}
 use borrow.Author.Tests.{eq-eqb}
-use mathlib.Core.List.Memᴰ
 use mathlib.Core.List.{Memᴰ}
 use native.Mathlib.Decide.{ℕ_discrete}
 use Rattle.paper.specs.Multiset.{bit, keep}
@@ -105,5 +104,5 @@ module _ {A : Type 0} where
           let one = below_one n (k x) w (h x (Memᴰ.head refl)) in
           let add = below_add n (λ c. bit (eqb (k x) c) * w c) (λ c. many (λ x. p x && eqb (k x) c) s * w c) in
           let same : sum_below n (λ c. (bit (eqb (k x) c) + many (λ x. p x && eqb (k x) c) s) * w c) ≡ sum_below n (λ c. bit (eqb (k x) c) * w c + many (λ x. p x && eqb (k x) c) s * w c)
-                = below_same n _ _ (λ c l. grind arith) in
+          = below_same n _ _ (λ c l. grind arith) in
           omega arith

@@ -10,11 +10,10 @@ ghost use Rattle.sheet.specs.Counting.{rules_with, predictions_of, predict_at, w
 ghost use Rattle.sheet.specs.Growing.{IsListOf};
 ghost use Rattle.sheet.specs.Grown.{IsBuilt};
 
-use paper::SymbolNo;
-use tables::input::Input;
-
 use crate::list::KEYS;
 use crate::word::Entry;
+use paper::SymbolNo;
+use tables::input::Input;
 
 /// The cells of list i.
 fn list_of<'a>(input: &Input, words: &'a [u32], starts: &[usize; 66], i: usize) -> &'a [u32]
@@ -153,7 +152,10 @@ pub fn count_tops(input: &Input, words: &[u32], starts: &[usize; 66]) -> usize
     let mut tops = 0;
     for cell in cells {
         let entry = Entry::of_word(*cell % KEYS);
-        if entry.rest == 0 && entry.origin.0 == 0 && input.grammar.left(entry.rule) == input.grammar.start() {
+        if entry.rest == 0
+            && entry.origin.0 == 0
+            && input.grammar.left(entry.rule) == input.grammar.start()
+        {
             tops += 1;
         }
     }

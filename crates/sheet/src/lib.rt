@@ -2,8 +2,8 @@
 // The work sheet: its words, its lists, and what is counted over it.
 
 pub mod build;
-pub mod count;
 pub mod bytes;
+pub mod count;
 pub mod grow;
 pub mod list;
 pub mod word;

@@ -1,4 +1,4 @@
-use Rattle.std.proofs.Common.{arith, ◌≡◌, ◌+◌, ◌*◌, ap, ◌∙◌}
+use Rattle.std.proofs.Common.{arith, ◌∙◌}
 use Rattle.sheet.proofs.Listed.{cell_says}
 use Rattle.sheet.proofs.Counting.{ending_first, ending_more, ending_past, ending_few, ending_last, number_small}
 use Rattle.sheet.proofs.count.count_ended.Goals as goal
@@ -41,9 +41,9 @@ loop-cell-preserved c =
     c.of_word-entry.ensures in
     elim c.if-entry-eq0.branch [
       | then-entry-eq0 w ↦
-        let small = number_small c.args.input.now.fits c.requires.place says w.from.result w.from-then-entry-eq0.result w.from.ensures (w.from-then-entry-eq0.ensures ∙ w.left-left.ensures) in
-        rw w.ended-is (ending_more c.args.input.now.fits c.requires.place says c.loop-cell.invariant _ w.if-entry-eq0.true small
-        (omega (arith, w.from.ensures, w.from-then-entry-eq0.ensures, w.left-left.ensures)))
+          let small = number_small c.args.input.now.fits c.requires.place says w.from.result w.from-then-entry-eq0.result w.from.ensures (w.from-then-entry-eq0.ensures ∙ w.left-left.ensures) in
+          rw w.ended-is (ending_more c.args.input.now.fits c.requires.place says c.loop-cell.invariant _ w.if-entry-eq0.true small
+          (omega (arith, w.from.ensures, w.from-then-entry-eq0.ensures, w.left-left.ensures)))
       | else-entry-eq0 w ↦ rw w.ended-is (ending_past c.args.input.now.fits c.requires.place says c.loop-cell.invariant w.if-entry-eq0.false)
     ]
 

@@ -1,6 +1,5 @@
 use Rattle.std.proofs.Common.{arith}
 use Rattle.sheet.proofs.Listed.{rises, within, listed}
-use Rattle.sheet.proofs.Tally.{sum_by_number}
 use Rattle.sheet.proofs.count.list_of.Goals as goal
 
 pub offset_bounds-words-starts : goal.offset_bounds-words-starts

@@ -1,4 +1,4 @@
-use Rattle.std.proofs.Common.{◌≡◌, ◌<◌, ◌^◌, ℕ, arith}
+use Rattle.std.proofs.Common.{◌≡◌, ◌<◌, ℕ, arith}
 use Rattle.std.proofs.lemmas.Nat.{one_shl}
 use lib.Count.{count_trailing_zeros}
 use Rattle.paper.specs.Bits.{bit_at}
