@@ -3,13 +3,16 @@ pub mod ByteSets
 pub mod Cells
 pub mod Choosing
 pub mod Completing
+pub mod Counting
 pub mod Emptying
 pub mod Exact
 pub mod Filling
 pub mod Growth
 pub mod Inserting
 pub mod Learning
+pub mod Listed
 pub mod Opening
 pub mod Places
 pub mod Predicting
+pub mod Tally
 pub mod Underway

@@ -16,12 +16,12 @@ use Rattle.sheet.specs.Growing.{IsListOf}
 
 -- ---- words and starts of a sheet
 
-words_append : (g : Grammar) (s t : Sheet) → sheet_words g (s ++ t) ≡ sheet_words g s ++ sheet_words g t
+pub words_append : (g : Grammar) (s t : Sheet) → sheet_words g (s ++ t) ≡ sheet_words g s ++ sheet_words g t
 unfolding sheet_words
 words_append g [] t = refl
 words_append g (list ∷ s) t = ap (map (word g) list ++◌) (words_append g s t) ∙ sym (append_assoc (map (word g) list) (sheet_words g s) (sheet_words g t))
 
-length_starts : (at : ℕ) (s : Sheet) → length (starts_from at s) ≡ suc (length s)
+pub length_starts : (at : ℕ) (s : Sheet) → length (starts_from at s) ≡ suc (length s)
 unfolding starts_from
 length_starts at [] = refl
 length_starts at (list ∷ s) = ap suc (length_starts (at + length list) s)
@@ -88,7 +88,7 @@ module _ (g : Grammar) (row : List ℕ) where
   sheet_more j l = lists_more j ∙ ap (λ list. first_lists g row j ++ (list ∷ [])) (sym (sheet_list j l))
 
   -- the first lists begin the sheet
-  begins : (i m : ℕ) → i ≤ m → (rest : Sheet) × (first_lists g row m ≡ first_lists g row i ++ rest)
+  pub begins : (i m : ℕ) → i ≤ m → (rest : Sheet) × (first_lists g row m ≡ first_lists g row i ++ rest)
   begins i zero l = let e : zero ≡ i = omega arith in ([], ap (first_lists g row) e ∙ sym (append-nil (first_lists g row i)))
   begins i (suc m) l = go (begins i m) (cases_lt i (suc m))
     where
@@ -107,7 +107,7 @@ module _ (g : Grammar) (row : List ℕ) where
   unfolding first_lists entries sum
   entries_none = refl
 
-  entries_list : (j : ℕ) → j ≤ length row → entries (first_lists g row (suc j)) ≡ entries (first_lists g row j) + length (list_at (sheet_of g row) j)
+  pub entries_list : (j : ℕ) → j ≤ length row → entries (first_lists g row (suc j)) ≡ entries (first_lists g row j) + length (list_at (sheet_of g row) j)
   unfolding entries sum
   entries_list j l = ap (sum length) (sheet_more j l) ∙ sum_append length (first_lists g row j) (list_at (sheet_of g row) j ∷ []) ∙ omega arith
 
@@ -124,7 +124,7 @@ module _ (g : Grammar) (row : List ℕ) where
   unfolding first_lists entries sum sheet_words
   none_laid words = refl
 
-  words_more : (j : ℕ) → j ≤ length row → sheet_words g (first_lists g row (suc j)) ≡ sheet_words g (first_lists g row j) ++ map (word g) (list_at (sheet_of g row) j)
+  pub words_more : (j : ℕ) → j ≤ length row → sheet_words g (first_lists g row (suc j)) ≡ sheet_words g (first_lists g row j) ++ map (word g) (list_at (sheet_of g row) j)
   unfolding sheet_words
   words_more j l =
       ap (sheet_words g) (sheet_more j l) ∙ words_append g (first_lists g row j) (list_at (sheet_of g row) j ∷ [])
@@ -149,7 +149,7 @@ module _ (g : Grammar) (row : List ℕ) where
   unfolding sheet_of
   entries_sheet = refl
 
-  starts_at : (i : ℕ) → i ≤ suc (length row) → get_or (starts_from 0 (sheet_of g row)) i 0 ≡ entries (first_lists g row i)
+  pub starts_at : (i : ℕ) → i ≤ suc (length row) → get_or (starts_from 0 (sheet_of g row)) i 0 ≡ entries (first_lists g row i)
   unfolding sheet_of
   starts_at i l =
       let r = begins i (suc (length row)) l in

@@ -1,5 +1,6 @@
 pub mod Bytes
 pub mod Cells
+pub mod Counting
 pub mod Growing
 pub mod Grown
 pub mod Learning

@@ -3,6 +3,7 @@
 
 pub mod build;
 pub mod bytes;
+pub mod count;
 pub mod grow;
 pub mod list;
 pub mod word;
