@@ -1,0 +1,166 @@
+-- The lines of a plan are valid: what a plan says of its nodes, said of lines.
+-- Assumes nothing.
+use mathlib.Core.Path.{◌≡◌, refl, sym, ◌∙◌, ap}
+use mathlib.Core.Bool.{◌&&◌, cond}
+use mathlib.Core.List.{List, [], ◌∷◌}
+use Prim.Native.Nat.{ℕ, zero, suc, ◌-◌, ◌*◌, ◌≤◌, ◌<◌}
+use native.Mathlib.Omega.{arith}
+use lib.Dec.{eqb}
+use lib.ListN.{length, get_or}
+use borrow.Author.Tests.{eq-eqb}
+use Rattle.std.proofs.lemmas.Bool.Decides.{nat_tests}
+use Rattle.paper.specs.Grammar.{Grammar, IsGrammar, left, members}
+use Rattle.paper.specs.Lines.{line_size, line_count, line_from, line_to, line_symbol, Joins, LineRight, Uses, WholeRight, Valid}
+use Rattle.paper.proofs.Multiset.{arranged_length}
+use Rattle.lines.specs.Plan.{Part, Node, place_of, slots_of, lines_of, PartsJoin, node_at, HasPart, IsPlan}
+use Rattle.lines.proofs.PlanNumbers.{slots_length, FewParts, ReadsNode, lines_length, reads_node}
+
+-- ---- places
+
+-- node k is of symbol x from place a to place b
+record IsNode (g : Grammar) (nodes : List Node) (k x a b : ℕ) : Type 0 where
+  symbol : left g (node_at nodes k).rule ≡ x
+  from : (node_at nodes k).from ≡ a
+  to : (node_at nodes k).to ≡ b
+
+-- another node is passed over
+passed : (l f t x a b m k : ℕ) → (l ≡ x → f ≡ a → t ≡ b → ⊥) → m ≡ k → cond (eqb l x && (eqb f a && eqb t b)) 0 (suc m) ≡ suc k
+passed l f t x a b m k n e = grind (arith, nat_tests)
+
+-- The place of a symbol over a span is the number of the first such node.
+first_place : (g : Grammar) (nodes : List Node) (k x a b : ℕ) → k < length nodes → IsNode g nodes k x a b → ((i : ℕ) → i < k → IsNode g nodes i x a b → ⊥)
+    → place_of g nodes x a b ≡ k
+unfolding place_of
+first_place g [] k x a b l h none = absurd (omega arith)
+first_place g (node ∷ nodes) zero x a b l h none = rw (eq-eqb (left g node.rule) x h.symbol, eq-eqb node.from a h.from, eq-eqb node.to b h.to)
+first_place g (node ∷ nodes) (suc k) x a b l h none =
+    passed (left g node.rule) node.from node.to x a b (place_of g nodes x a b) k
+    (λ s f t. none 0 (omega arith) (record { symbol = s; from = f; to = t }))
+    (first_place g nodes k x a b (omega arith) (record { symbol = h.symbol; from = h.from; to = h.to })
+        (λ i c n. none (suc i) (omega arith) (record { symbol = n.symbol; from = n.from; to = n.to })))
+
+-- ---- the slots of parts
+
+parts_length : {row s : List ℕ} {parts : List Part} {a b : ℕ} → PartsJoin row parts a b s → length parts ≡ length s
+parts_length PartsJoin.end = refl
+parts_length (PartsJoin.token l joins) = ap suc (parts_length joins)
+parts_length (PartsJoin.symbol x to l joins) = ap suc (parts_length joins)
+
+-- the place of x from a to b is a line before line k that has this symbol and span
+record IsBefore (g : Grammar) (nodes : List Node) (ns : List ℕ) (k x a b : ℕ) : Type 0 where
+  below : place_of g nodes x a b < k
+  symbol : line_symbol g ns (place_of g nodes x a b) ≡ x
+  from : line_from ns (place_of g nodes x a b) ≡ a
+  to : line_to ns (place_of g nodes x a b) ≡ b
+
+-- Parts that join are slots that join.
+slots_join : {g : Grammar} {row ns s : List ℕ} {nodes : List Node} {k a b : ℕ} {parts : List Part} → PartsJoin row parts a b s
+    → ((x c d : ℕ) → HasPart parts a x c d → IsBefore g nodes ns k x c d) → Joins g row ns k (slots_of g nodes parts a) a b s
+unfolding slots_of
+slots_join PartsJoin.end all = Joins.end
+slots_join (PartsJoin.token l joins) all = Joins.token l refl (slots_join joins (λ x c d p. all x c d (HasPart.token p)))
+slots_join {g} {nodes = nodes} (PartsJoin.symbol {a = a} x to l joins) all =
+    let e = all x a to HasPart.here in
+    Joins.part (place_of g nodes x a to) e.below e.from e.to e.symbol (slots_join joins (λ y c d p. all y c d (HasPart.symbol p)))
+
+-- one of the slots holds n
+record HasSlot (slots : List ℕ) (n : ℕ) : Type 0 where
+  slot : ℕ
+  below : slot < length slots
+  names : get_or slots slot 0 ≡ n
+
+slot_behind : {slots : List ℕ} {n : ℕ} (first : ℕ) → HasSlot slots n → HasSlot (first ∷ slots) n
+slot_behind first h = record { slot = suc h.slot; below = let b = h.below in omega arith; names = h.names }
+
+-- a part that is a symbol has a slot that names its place
+part_slot : (g : Grammar) (nodes : List Node) {parts : List Part} {a x b c : ℕ} → HasPart parts a x b c
+    → HasSlot (slots_of g nodes parts a) (suc (place_of g nodes x b c))
+unfolding slots_of
+part_slot g nodes HasPart.here = record { slot = 0; below = omega arith; names = refl }
+part_slot g nodes (HasPart.token p) = slot_behind 0 (part_slot g nodes p)
+part_slot g nodes (HasPart.symbol {a = a} {y = y} {to = to} p) = slot_behind (suc (place_of g nodes y a to)) (part_slot g nodes p)
+
+-- ---- the lines of a plan
+
+module _ {g : Grammar} {row : List ℕ} {nodes : List Node} (is : IsGrammar g) (plan : IsPlan g row nodes) where
+  few : FewParts nodes
+  few k b =
+      let j = plan.joined k b in
+      omega (arith, parts_length j.1, arranged_length j.0 (members g (node_at nodes k).rule) j.2, is.few_members (node_at nodes k).rule (plan.rules k b))
+
+  reads : (k : ℕ) → k < length nodes → ReadsNode g nodes (lines_of g nodes) k (node_at nodes k)
+  reads k b = reads_node g nodes few k b
+
+  -- no other node has the symbol and the span of node k, so they name it
+  only_place : (k x a b : ℕ) → k < length nodes → IsNode g nodes k x a b → place_of g nodes x a b ≡ k
+  only_place k x a b l h =
+      first_place g nodes k x a b l h (λ i c n. plan.unlike i k c l (n.symbol ∙ sym h.symbol) (n.from ∙ sym h.from) (n.to ∙ sym h.to))
+
+  -- a part of node k that is a symbol is a line before line k
+  part_before : (k : ℕ) → k < length nodes → (x c d : ℕ) → HasPart (node_at nodes k).parts (node_at nodes k).from x c d → IsBefore g nodes (lines_of g nodes) k x c d
+  part_before k b x c d p =
+      let e = plan.earlier k x c d b p in
+      let back = reads e.0 (omega (arith, e.1)) in
+      let place = only_place e.0 x c d (omega (arith, e.1)) (record { symbol = e.2; from = e.3; to = e.4 }) in
+      record {
+        below = omega (arith, e.1);
+        symbol = rw place (ap (left g) back.rule_is ∙ e.2);
+        from = rw place (back.from_is ∙ e.3);
+        to = rw place (back.to_is ∙ e.4);
+      }
+
+  line_right : (k : ℕ) → k < length nodes → LineRight g row (lines_of g nodes) k
+  line_right k b =
+      let back = reads k b in
+      let w = plan.within k b in
+      let j = plan.joined k b in
+      let node = node_at nodes k in
+      let slots = slots_length g nodes node.parts node.from in
+      record {
+        rule_is = rw back.rule_is (plan.rules k b);
+        parts_are = back.parts_are ∙ (slots ∙ (parts_length j.1 ∙ (arranged_length j.0 (members g node.rule) j.2 ∙ ap (λ h. length (members g h)) (sym back.rule_is))));
+        span = rw (back.from_is, back.to_is) w.0;
+        within = rw back.to_is w.1;
+        past = λ x p q. back.past x (rw back.parts_are at p) q;
+        symbols = j.0;
+        joins = rw (back.slots_are, back.from_is, back.to_is) (slots_join j.1 (part_before k b));
+        arranged = rw back.rule_is j.2;
+        acceptable = j.3;
+        unshared = λ i c s f t.
+            let other = reads i (omega arith) in
+            plan.unlike i k c b (sym (ap (left g) other.rule_is) ∙ (s ∙ ap (left g) back.rule_is)) (sym other.from_is ∙ (f ∙ back.from_is)) (sym other.to_is ∙ (t ∙ back.to_is));
+      }
+
+  -- one line for each node
+  pub count_is : line_count (lines_of g nodes) ≡ length nodes
+  count_is = let l = lines_length g nodes few in omega arith
+
+  line_used : (k i : ℕ) → i < length nodes → k < length nodes
+      → HasPart (node_at nodes i).parts (node_at nodes i).from (left g (node_at nodes k).rule) (node_at nodes k).from (node_at nodes k).to → Uses (lines_of g nodes) i k
+  line_used k i b c p =
+      let back = reads i b in
+      let node = node_at nodes k in
+      let place = only_place k (left g node.rule) node.from node.to c (record { symbol = refl; from = refl; to = refl }) in
+      let h = part_slot g nodes p in
+      record { slot = h.slot; is_part = rw back.parts_are h.below; names = back.slot h.slot h.below ∙ (h.names ∙ ap suc place) }
+
+  whole_right : WholeRight g row (lines_of g nodes)
+  whole_right =
+      let some = plan.some_node in
+      let l : length nodes - 1 < length nodes = omega arith in
+      let back = reads (length nodes - 1) l in
+      record {
+        some_line = rw count_is some;
+        top = rw count_is (ap (left g) back.rule_is ∙ plan.top);
+        top_from = rw count_is (back.from_is ∙ plan.top_from);
+        top_to = rw count_is (back.to_is ∙ plan.top_to);
+        used = λ k c. let u = plan.used k (omega (arith, count_is)) in (u.0, u.1, omega (arith, count_is, u.2), line_used k u.0 u.2 (omega (arith, count_is)) u.3);
+      }
+
+  -- The lines of a plan are valid.
+  pub lines_valid : Valid g row (lines_of g nodes)
+  lines_valid = record {
+    whole_lines = let l = lines_length g nodes few in omega arith;
+    each = λ k b. line_right k (rw count_is at b);
+    whole = whole_right;
+  }
