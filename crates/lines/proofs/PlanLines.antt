@@ -2,17 +2,21 @@
 -- Assumes nothing.
 use mathlib.Core.Path.{◌≡◌, refl, sym, ◌∙◌, ap}
 use mathlib.Core.Bool.{◌&&◌, cond}
-use mathlib.Core.List.{List, [], ◌∷◌}
-use Prim.Native.Nat.{ℕ, zero, suc, ◌-◌, ◌*◌, ◌≤◌, ◌<◌}
+use mathlib.Core.List.{List, [], ◌∷◌, ◌++◌}
+use Prim.Native.Nat.{ℕ, zero, suc, ◌-◌, ◌*◌, ◌^◌, ◌≤◌, ◌<◌}
 use native.Mathlib.Omega.{arith}
+use native.Mathlib.Nat.{mul-le-mul}
 use lib.Dec.{eqb}
-use lib.ListN.{length, get_or}
-use borrow.Author.Tests.{eq-eqb}
+use lib.ListN.{length, get_or, replicate}
+use borrow.Author.Tests.{eq-eqb, ne_eqb}
 use Rattle.std.proofs.lemmas.Bool.Decides.{nat_tests}
+use Rattle.std.specs.List.{All}
+use Rattle.std.proofs.lemmas.List.Elements.{All-nil, All-cons, All-append, All-replicate}
 use Rattle.paper.specs.Grammar.{Grammar, IsGrammar, left, members}
+use Rattle.paper.specs.Price.{lines_bound}
 use Rattle.paper.specs.Lines.{line_size, line_count, line_from, line_to, line_symbol, Joins, LineRight, Uses, WholeRight, Valid}
 use Rattle.paper.proofs.Multiset.{arranged_length}
-use Rattle.lines.specs.Plan.{Part, Node, place_of, slots_of, lines_of, PartsJoin, node_at, HasPart, IsPlan}
+use Rattle.lines.specs.Plan.{Part, Node, place_of, slots_of, numbers_of, numbers_from, lines_of, PartsJoin, node_at, HasPart, IsPlan}
 use Rattle.lines.proofs.PlanNumbers.{slots_length, FewParts, ReadsNode, lines_length, reads_node}
 
 -- ---- places
@@ -37,7 +41,7 @@ first_place g (node ∷ nodes) (suc k) x a b l h none =
     passed (left g node.rule) node.from node.to x a b (place_of g nodes x a b) k
     (λ s f t. none 0 (omega arith) (record { symbol = s; from = f; to = t }))
     (first_place g nodes k x a b (omega arith) (record { symbol = h.symbol; from = h.from; to = h.to })
-        (λ i c n. none (suc i) (omega arith) (record { symbol = n.symbol; from = n.from; to = n.to })))
+    (λ i c n. none (suc i) (omega arith) (record { symbol = n.symbol; from = n.from; to = n.to })))
 
 -- ---- the slots of parts
 
@@ -131,9 +135,13 @@ module _ {g : Grammar} {row : List ℕ} {nodes : List Node} (is : IsGrammar g) (
             plan.unlike i k c b (sym (ap (left g) other.rule_is) ∙ (s ∙ ap (left g) back.rule_is)) (sym other.from_is ∙ (f ∙ back.from_is)) (sym other.to_is ∙ (t ∙ back.to_is));
       }
 
+  -- twelve numbers for each node
+  pub lines_size : length (lines_of g nodes) ≡ line_size * length nodes
+  lines_size = lines_length g nodes few
+
   -- one line for each node
   pub count_is : line_count (lines_of g nodes) ≡ length nodes
-  count_is = let l = lines_length g nodes few in omega arith
+  count_is = let l = lines_size in omega arith
 
   line_used : (k i : ℕ) → i < length nodes → k < length nodes
       → HasPart (node_at nodes i).parts (node_at nodes i).from (left g (node_at nodes k).rule) (node_at nodes k).from (node_at nodes k).to → Uses (lines_of g nodes) i k
@@ -160,7 +168,67 @@ module _ {g : Grammar} {row : List ℕ} {nodes : List Node} (is : IsGrammar g) (
   -- The lines of a plan are valid.
   pub lines_valid : Valid g row (lines_of g nodes)
   lines_valid = record {
-    whole_lines = let l = lines_length g nodes few in omega arith;
+    whole_lines = let l = lines_size in omega arith;
     each = λ k b. line_right k (rw count_is at b);
     whole = whole_right;
   }
+
+-- ---- the size of the numbers
+
+abbrev IsNarrow : ℕ → Type 0
+IsNarrow n = n < 2 ^ 16
+
+slots_narrow : (g : Grammar) (all : List Node) (parts : List Part) (a : ℕ) → ((x c d : ℕ) → HasPart parts a x c d → suc (place_of g all x c d) < 2 ^ 16)
+    → All IsNarrow (slots_of g all parts a)
+unfolding slots_of
+slots_narrow g all [] a places = All-nil IsNarrow
+slots_narrow g all (Part.token ∷ parts) a places =
+    All-cons IsNarrow 0 (slots_of g all parts (suc a)) (omega arith) (slots_narrow g all parts (suc a) (λ x c d p. places x c d (HasPart.token p)))
+slots_narrow g all (Part.symbol x to ∷ parts) a places =
+    All-cons IsNarrow (suc (place_of g all x a to)) (slots_of g all parts to) (places x a to HasPart.here) (slots_narrow g all parts to (λ y c d p. places y c d (HasPart.symbol p)))
+
+-- what keeps the numbers of a node narrow
+record IsNarrowNode (g : Grammar) (all : List Node) (node : Node) : Type 0 where
+  rule : node.rule < 2 ^ 16
+  from : node.from < 2 ^ 16
+  to : node.to < 2 ^ 16
+  few : length node.parts < 2 ^ 16
+  places : (x c d : ℕ) → HasPart node.parts node.from x c d → suc (place_of g all x c d) < 2 ^ 16
+
+numbers_narrow : (g : Grammar) (all : List Node) (node : Node) → IsNarrowNode g all node → All IsNarrow (numbers_of g all node)
+numbers_narrow g all node n =
+    let slots = slots_of g all node.parts node.from in
+    let zeros : List ℕ = replicate (8 - length node.parts) 0 in
+    let tail : All IsNarrow (slots ++ zeros) =
+    All-append IsNarrow slots zeros (slots_narrow g all node.parts node.from n.places) (All-replicate IsNarrow (8 - length node.parts) 0 (omega arith)) in
+    All-cons IsNarrow node.rule (node.from ∷ node.to ∷ length node.parts ∷ (slots ++ zeros)) n.rule
+    (All-cons IsNarrow node.from (node.to ∷ length node.parts ∷ (slots ++ zeros)) n.from
+    (All-cons IsNarrow node.to (length node.parts ∷ (slots ++ zeros)) n.to (All-cons IsNarrow (length node.parts) (slots ++ zeros) n.few tail)))
+
+all_narrow : (g : Grammar) (all nodes : List Node) → ((k : ℕ) → k < length nodes → IsNarrowNode g all (node_at nodes k)) → All IsNarrow (numbers_from g all nodes)
+unfolding numbers_from
+all_narrow g all [] n = All-nil IsNarrow
+all_narrow g all (node ∷ more) n =
+    All-append IsNarrow (numbers_of g all node) (numbers_from g all more) (numbers_narrow g all node (n 0 (omega arith))) (all_narrow g all more (λ k b. n (suc k) (omega arith)))
+
+-- lines of a short row are few
+pub few_lines : (g : Grammar) (n : ℕ) → IsGrammar g → n ≤ 64 → lines_bound g n ≤ 12096
+unfolding lines_bound
+few_lines g zero is short = omega (arith, is.few_symbols, is.a_terminal)
+few_lines g (suc n) is short =
+    let few : g.nonterminals ≤ 63 = omega (arith, is.few_symbols, is.a_terminal) in
+    let long : 3 * suc n ≤ 192 = omega arith in
+    rw (ne_eqb (suc n) 0 (λ e. omega arith)) (mul-le-mul long few)
+
+module _ {g : Grammar} {row : List ℕ} {nodes : List Node} (is : IsGrammar g) (plan : IsPlan g row nodes) where
+  -- The numbers of a short plan of a short row are narrow.
+  pub lines_narrow : length row ≤ 64 → length nodes < 2 ^ 16 → All IsNarrow (lines_of g nodes)
+  lines_narrow short small = all_narrow g nodes nodes (λ k b.
+      let w = plan.within k b in
+      record {
+        rule = omega (arith, plan.rules k b, is.few_rules);
+        from = omega arith;
+        to = omega arith;
+        few = omega (arith, few is plan k b);
+        places = λ x c d p. let e = part_before is plan k b x c d p in let l = e.below in omega arith;
+      })

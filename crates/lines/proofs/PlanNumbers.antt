@@ -63,7 +63,7 @@ reads_first g all node ns more n l few =
     let back = rw (line_of_node g all node) at (reads_back ns n node.rule node.from node.to (slots_of g all node.parts node.from) l) in
     rw (← append_assoc ns (numbers_of g all node) more)
     (reads_kept (suc n) (extends_append (ns ++ numbers_of g all node) more) (omega (arith, length-append ns (numbers_of g all node))) (omega arith)
-        (omega (arith, slots_length g all node.parts node.from)) back)
+    (omega (arith, slots_length g all node.parts node.from)) back)
 
 -- the lines of nodes, behind n lines
 reads_behind : (g : Grammar) (all nodes : List Node) → FewParts nodes → (ns : List ℕ) (n k : ℕ) → length ns ≡ line_size * n → k < length nodes

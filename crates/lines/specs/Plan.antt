@@ -1,7 +1,6 @@
 -- A derivation as a list of nodes, each behind its parts, and the lines that it is written as.
 -- Assumes nothing.
-use Rattle.std.specs.Prelude.{◌≡◌, true, ◌&&◌, cond, List, [], ◌∷◌, ◌++◌, ℕ, suc, ◌+◌, ◌-◌, ◌≤◌, ◌<◌, eqb, length, get_or, replicate}
-use mathlib.Core.List.{Memᴰ}
+use Rattle.std.specs.Prelude.{◌≡◌, ◌&&◌, cond, List, [], ◌∷◌, ◌++◌, ℕ, suc, ◌-◌, ◌≤◌, ◌<◌, eqb, length, get_or, replicate}
 use Rattle.paper.specs.Grammar.{Grammar, rule_count, left, members}
 use Rattle.paper.specs.Multiset.{Arrangement}
 use Rattle.paper.specs.Derivation.{Acceptable}
