@@ -66,7 +66,7 @@ open_still {g} {nodes = nodes} {x = x} {a = a} {b = b} node o other = record { a
     go (inr h) = o.unwritten h
 
 -- a node has the rank of what it is
-rank_is : {g : Grammar} {node : Node} {x a b : ℕ} (rank : ℕ → ℕ → ℕ → ℕ) → IsNodeOf g node x a b → node_rank g rank node ≡ rank x a b
+pub rank_is : {g : Grammar} {node : Node} {x a b : ℕ} (rank : ℕ → ℕ → ℕ → ℕ) → IsNodeOf g node x a b → node_rank g rank node ≡ rank x a b
 rank_is rank is = rw (is.symbol, is.from, is.to)
 
 -- Is one of the nodes x from a to b?

@@ -53,3 +53,10 @@ pub record Growing (g : Grammar) (row : List ℕ) (rank : ℕ → ℕ → ℕ �
   pub top : (k : ℕ) → suc k ≡ length nodes → IsNodeOf g (node_at nodes k) g.start 0 (length row)
   pub used : (k : ℕ) → suc k < length nodes → (i : ℕ) × (i < length nodes)
       × HasPart (node_at nodes i).parts (node_at nodes i).from (left g (node_at nodes k).rule) (node_at nodes k).from (node_at nodes k).to
+
+-- x from a to b has a step whose parts are needed too
+pub record HasStep (g : Grammar) (row : List ℕ) (rank : ℕ → ℕ → ℕ → ℕ) (Needed : ℕ → ℕ → ℕ → Type 0) (x a b : ℕ) : Type 0 where
+  pub node : Node
+  pub is : IsNodeOf g node x a b
+  pub step : IsStep g row rank node
+  pub needs : (y c d : ℕ) → HasPart node.parts node.from y c d → Needed y c d
