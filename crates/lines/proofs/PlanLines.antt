@@ -17,31 +17,31 @@ use Rattle.paper.specs.Price.{lines_bound}
 use Rattle.paper.specs.Lines.{line_size, line_count, line_from, line_to, line_symbol, Joins, LineRight, Uses, WholeRight, Valid}
 use Rattle.paper.proofs.Multiset.{arranged_length}
 use Rattle.lines.specs.Plan.{Part, Node, place_of, slots_of, numbers_of, numbers_from, lines_of, PartsJoin, node_at, HasPart, IsPlan}
+use Rattle.lines.specs.Growing.{IsNodeOf}
 use Rattle.lines.proofs.PlanNumbers.{slots_length, FewParts, ReadsNode, lines_length, reads_node}
 
 -- ---- places
-
--- node k is of symbol x from place a to place b
-record IsNode (g : Grammar) (nodes : List Node) (k x a b : ℕ) : Type 0 where
-  symbol : left g (node_at nodes k).rule ≡ x
-  from : (node_at nodes k).from ≡ a
-  to : (node_at nodes k).to ≡ b
 
 -- another node is passed over
 passed : (l f t x a b m k : ℕ) → (l ≡ x → f ≡ a → t ≡ b → ⊥) → m ≡ k → cond (eqb l x && (eqb f a && eqb t b)) 0 (suc m) ≡ suc k
 passed l f t x a b m k n e = grind (arith, nat_tests)
 
 -- The place of a symbol over a span is the number of the first such node.
-first_place : (g : Grammar) (nodes : List Node) (k x a b : ℕ) → k < length nodes → IsNode g nodes k x a b → ((i : ℕ) → i < k → IsNode g nodes i x a b → ⊥)
-    → place_of g nodes x a b ≡ k
+first_place : (g : Grammar) (nodes : List Node) (k x a b : ℕ) → k < length nodes → IsNodeOf g (node_at nodes k) x a b
+    → ((i : ℕ) → i < k → IsNodeOf g (node_at nodes i) x a b → ⊥) → place_of g nodes x a b ≡ k
 unfolding place_of
 first_place g [] k x a b l h none = absurd (omega arith)
 first_place g (node ∷ nodes) zero x a b l h none = rw (eq-eqb (left g node.rule) x h.symbol, eq-eqb node.from a h.from, eq-eqb node.to b h.to)
 first_place g (node ∷ nodes) (suc k) x a b l h none =
     passed (left g node.rule) node.from node.to x a b (place_of g nodes x a b) k
     (λ s f t. none 0 (omega arith) (record { symbol = s; from = f; to = t }))
-    (first_place g nodes k x a b (omega arith) (record { symbol = h.symbol; from = h.from; to = h.to })
-    (λ i c n. none (suc i) (omega arith) (record { symbol = n.symbol; from = n.from; to = n.to })))
+    (first_place g nodes k x a b (omega arith) h (λ i c n. none (suc i) (omega arith) n))
+
+-- In a plan no two nodes have one symbol and span, so that is the number of the node.
+pub only_place : {g : Grammar} {row : List ℕ} {nodes : List Node} → IsPlan g row nodes → (k x a b : ℕ) → k < length nodes → IsNodeOf g (node_at nodes k) x a b
+    → place_of g nodes x a b ≡ k
+only_place {g} {nodes = nodes} plan k x a b l h =
+    first_place g nodes k x a b l h (λ i c n. plan.unlike i k c l (n.symbol ∙ sym h.symbol) (n.from ∙ sym h.from) (n.to ∙ sym h.to))
 
 -- ---- the slots of parts
 
@@ -87,25 +87,21 @@ part_slot g nodes (HasPart.symbol {a = a} {y = y} {to = to} p) = slot_behind (su
 -- ---- the lines of a plan
 
 module _ {g : Grammar} {row : List ℕ} {nodes : List Node} (is : IsGrammar g) (plan : IsPlan g row nodes) where
-  few : FewParts nodes
-  few k b =
+  -- no node has more than eight parts, so line k reads as node k
+  pub few_parts : FewParts nodes
+  few_parts k b =
       let j = plan.joined k b in
       omega (arith, parts_length j.1, arranged_length j.0 (members g (node_at nodes k).rule) j.2, is.few_members (node_at nodes k).rule (plan.rules k b))
 
-  reads : (k : ℕ) → k < length nodes → ReadsNode g nodes (lines_of g nodes) k (node_at nodes k)
-  reads k b = reads_node g nodes few k b
-
-  -- no other node has the symbol and the span of node k, so they name it
-  only_place : (k x a b : ℕ) → k < length nodes → IsNode g nodes k x a b → place_of g nodes x a b ≡ k
-  only_place k x a b l h =
-      first_place g nodes k x a b l h (λ i c n. plan.unlike i k c l (n.symbol ∙ sym h.symbol) (n.from ∙ sym h.from) (n.to ∙ sym h.to))
+  pub reads : (k : ℕ) → k < length nodes → ReadsNode g nodes (lines_of g nodes) k (node_at nodes k)
+  reads k b = reads_node g nodes few_parts k b
 
   -- a part of node k that is a symbol is a line before line k
   part_before : (k : ℕ) → k < length nodes → (x c d : ℕ) → HasPart (node_at nodes k).parts (node_at nodes k).from x c d → IsBefore g nodes (lines_of g nodes) k x c d
   part_before k b x c d p =
       let e = plan.earlier k x c d b p in
       let back = reads e.0 (omega (arith, e.1)) in
-      let place = only_place e.0 x c d (omega (arith, e.1)) (record { symbol = e.2; from = e.3; to = e.4 }) in
+      let place = only_place plan e.0 x c d (omega (arith, e.1)) (record { symbol = e.2; from = e.3; to = e.4 }) in
       record {
         below = omega (arith, e.1);
         symbol = rw place (ap (left g) back.rule_is ∙ e.2);
@@ -137,7 +133,7 @@ module _ {g : Grammar} {row : List ℕ} {nodes : List Node} (is : IsGrammar g) (
 
   -- twelve numbers for each node
   pub lines_size : length (lines_of g nodes) ≡ line_size * length nodes
-  lines_size = lines_length g nodes few
+  lines_size = lines_length g nodes few_parts
 
   -- one line for each node
   pub count_is : line_count (lines_of g nodes) ≡ length nodes
@@ -148,7 +144,7 @@ module _ {g : Grammar} {row : List ℕ} {nodes : List Node} (is : IsGrammar g) (
   line_used k i b c p =
       let back = reads i b in
       let node = node_at nodes k in
-      let place = only_place k (left g node.rule) node.from node.to c (record { symbol = refl; from = refl; to = refl }) in
+      let place = only_place plan k (left g node.rule) node.from node.to c (record { symbol = refl; from = refl; to = refl }) in
       let h = part_slot g nodes p in
       record { slot = h.slot; is_part = rw back.parts_are h.below; names = back.slot h.slot h.below ∙ (h.names ∙ ap suc place) }
 
@@ -229,6 +225,6 @@ module _ {g : Grammar} {row : List ℕ} {nodes : List Node} (is : IsGrammar g) (
         rule = omega (arith, plan.rules k b, is.few_rules);
         from = omega arith;
         to = omega arith;
-        few = omega (arith, few is plan k b);
+        few = omega (arith, few_parts is plan k b);
         places = λ x c d p. let e = part_before is plan k b x c d p in let l = e.below in omega arith;
       })
