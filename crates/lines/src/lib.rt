@@ -3,6 +3,7 @@
 
 pub mod calls;
 pub mod check;
+pub mod laws;
 pub mod line;
 #[cfg(test)]
 mod tests;
