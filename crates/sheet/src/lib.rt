@@ -6,4 +6,6 @@ pub mod bytes;
 pub mod count;
 pub mod grow;
 pub mod list;
+#[cfg(test)]
+mod tests;
 pub mod word;

@@ -17,7 +17,7 @@ loop-i-init c =
     ]
 
 pub loop-i-preserved : goal.loop-i-preserved
-loop-i-preserved c = underway_more c.loop-i.invariant c.loop-i-test.true c.in_ok-complete.ensures.grown c.in_ok-complete.ensures.completed
+loop-i-preserved c = underway_more c.loop-i.invariant (omega arith) c.in_ok-complete.ensures.grown c.in_ok-complete.ensures.completed
 
 pub returns-clause-list : goal.returns-clause-list
 returns-clause-list c =

@@ -17,7 +17,7 @@ overflow_add-steps c =
       c.loop-j.invariant,
       c.list_steps-steps.ensures,
       rules_few _ fit.is_grammar (grammar_of c.args.input.now.grammar.now).start,
-      partial_few fit c.loop-j.j c.loop-j.auto.j-end,
+      partial_few fit c.loop-j.j (omega arith),
       steps_few fit c.loop-j.j,
     )
 
