@@ -3,6 +3,7 @@
 use Rattle.std.proofs.Common.{◌≡◌, ℕ, ◌+◌, ◌-◌, ◌≤◌, ◌<◌, Option, Some, None, List, [], ◌∷◌, ◌++◌, length, get_or, refl, sym, ap, ◌∙◌, inl, inr, ◌⊎◌, arith, length-append}
 use Rattle.std.proofs.lemmas.Bool.{le-leb, lt-leb, cases_lt}
 use Rattle.std.proofs.lemmas.List.{get_or_append_left, get_or-append_right}
+use Rattle.std.specs.Option.{OnSome}
 use Rattle.lines.specs.Bracket.{end_within, IsWrittenAt}
 
 -- The text was put at its place, ends here, and is within the limit if it is not empty.
@@ -77,3 +78,19 @@ module _ {limit at middle : ℕ} {old mid s : List ℕ} (p : IsPut limit old at 
   -- the next text passes the limit, and so does the whole
   pub none_put : (t all : List ℕ) → None ≡ end_within limit middle t → length s + length t ≤ length all → end_within limit at all ≡ None
   none_put t all e l = end_past limit at all (omega (arith, passes limit middle t e, p.ends))
+
+  -- the next text is the last of the whole
+  pub end_more : (t : List ℕ) → end_within limit middle t ≡ end_within limit at (s ++ t)
+  end_more t = let same : middle + length t ≡ at + length (s ++ t) = omega (arith, p.ends, length-append s t) in rw same refl
+
+  pub written_more : (t : List ℕ) (r : Option ℕ) (new : List ℕ) → OnSome r (IsWrittenAt mid middle t new) → OnSome r (IsWrittenAt old at (s ++ t) new)
+  written_more t (Some end) new w = both_written t new w
+  written_more t None new w = tt
+
+  -- the limit is kept where it was kept at first
+  pub put_within : at ≤ limit → middle ≤ limit
+  put_within l = go (cases_lt 0 (length s))
+    where
+      go : (0 < length s) ⊎ (length s ≤ 0) → middle ≤ limit
+      go (inl some) = p.fits some
+      go (inr none) = omega (arith, p.ends)

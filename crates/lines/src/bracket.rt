@@ -57,6 +57,7 @@ fn put_line(input: &Input, lines: &[u16], k: usize, buffer: &mut [u8], at: usize
 #[cycle(bracket)]
 fn put_parts(input: &Input, lines: &[u16], k: usize, buffer: &mut [u8], at: usize, limit: usize) -> Option<usize>
     requires line { k < line_count lines.now }
+    requires within { at ≤ limit }
     requires right { (i : ℕ) → i ≤ k → LineRight (grammar_of input.now.grammar.now) input.now.tokens.now lines.now i }
     ensures end { result ≡ end_within limit at (parts_text input.now.tokens.now lines.now (texts_below input.now.tokens.now lines.now k) (part_slots lines.now k) (line_from lines.now k)) }
     ensures text { OnSome result (IsWrittenAt buffer.old at (parts_text input.now.tokens.now lines.now (texts_below input.now.tokens.now lines.now k) (part_slots lines.now k) (line_from lines.now k)) buffer.new) }
