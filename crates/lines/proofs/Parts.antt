@@ -195,8 +195,8 @@ module _ {g : Grammar} {row ns : List ℕ} {k h x i byte : ℕ} (r : Reached g r
     one_more {left} t proper =
         let rest = rest_of (members g h) byte in
         let shorter : length (without a rest) + (x + 1) ≡ length (members g h) = omega (arith, r.left, length_without a rest (taken_has g a rest t.may)) in
-        let on = one_joined r.is_grammar.order {rest = rest} p t.may in
         let slots = slots_from ns k r.line few x (omega (arith, r.parts_are)) in
+        let on = one_joined r.is_grammar.order {rest = rest} p t.may in
         record {
           is_grammar = r.is_grammar;
           line = r.line;

@@ -1,12 +1,16 @@
 // The bracket of lines. It is written twice by the same functions: first into an empty buffer, which tells how long it is or that it passes the limit, then
 // into the lent one. So nothing is written where it does not fit, and the time stays within the limit however long a bracket of shared lines would grow.
 
-ghost use Rattle.std.specs.Prelude.{◌≡◌, ℕ, [], ◌∷◌, ◌<◌, ◌≤◌, OnSome, length};
+ghost use Rattle.std.specs.Prelude.{◌≡◌, ℕ, [], ◌∷◌, ◌<◌, ◌≤◌, None, OnSome, length};
 ghost use Rattle.paper.specs.Image.{grammar_of};
-ghost use Rattle.paper.specs.Lines.{line_count, line_from, decimal, parts_text, texts_below, part_slots, bracket_of, LineRight};
+ghost use Rattle.paper.specs.Lines.{line_count, line_from, decimal, parts_text, texts_below, part_slots, bracket_of, LineRight, Valid};
+ghost use Rattle.paper.specs.Outcome.{last_bracket, padded, BracketingOutcome};
 ghost use Rattle.lines.specs.Bracket.{end_within, IsWrittenAt};
 
-use crate::line::{from, parts, rule, slot, to};
+use crate::check::first_fault;
+use crate::line::{count, from, parts, rule, slot, to};
+use paper::Refusal;
+use tables::Grammar;
 use tables::input::Input;
 
 /// Puts a byte at a place, if that is within the buffer, and answers the next place, if that is within the limit.
@@ -76,4 +80,30 @@ fn put_parts(input: &Input, lines: &[u16], k: usize, buffer: &mut [u8], at: usiz
         }
     }
     Some(at)
+}
+
+/// Writes the bracket of the last of valid lines, and 0 behind it, if it is not longer than the buffer. Answers its length.
+fn write_last(input: &Input, lines: &[u16], buffer: &mut [u8]) -> Option<usize>
+    requires { Valid (grammar_of input.now.grammar.now) input.now.tokens.now lines.now }
+    ensures end { result ≡ end_within (length buffer.old) 0 (last_bracket input.now.tokens.now lines.now) }
+    ensures long { result ≡ None → buffer.new ≡ buffer.old }
+    ensures text { OnSome result (buffer.new ≡ padded (last_bracket input.now.tokens.now lines.now) (length buffer.old)) }
+{
+    let last = count(lines) - 1;
+    let end = put_line(input, lines, last, &mut [], 0, buffer.len())?;
+    let _ = put_line(input, lines, last, buffer, 0, end);
+    buffer[end..].fill(0);
+    Some(end)
+}
+
+/// Writes the bracket of the last line, and answers its length.
+pub fn bracket(image: &[u8], tokens: &[u8], lines: &[u16], buffer: &mut [u8]) -> Result<usize, Refusal>
+    ensures { BracketingOutcome image.now tokens.now lines.now buffer.old result buffer.new }
+{
+    let grammar = Grammar::admit(image)?;
+    let input = Input::new(&grammar, tokens)?;
+    if first_fault(&input, lines).is_some() {
+        return Err(Refusal::InvalidLines);
+    }
+    write_last(&input, lines, buffer).ok_or(Refusal::LongBracket)
 }

@@ -1,6 +1,10 @@
 #![tactic(auto)]
 // Derivation lines, from anybody: when they are valid, their bracket, and the words under each.
 
-mod bracket;
+pub mod bracket;
+pub mod calls;
 pub mod check;
 pub mod line;
+#[cfg(test)]
+mod tests;
+pub mod view;
