@@ -1,9 +1,12 @@
 -- Text put into a buffer piece by piece.
 -- Assumes nothing.
-use Rattle.std.proofs.Common.{◌≡◌, ℕ, ◌+◌, ◌-◌, ◌≤◌, ◌<◌, Option, Some, None, List, [], ◌∷◌, ◌++◌, length, get_or, refl, sym, ap, ◌∙◌, inl, inr, ◌⊎◌, arith, length-append}
+use Rattle.std.proofs.Common.{◌≡◌, ℕ, ◌+◌, ◌-◌, ◌≤◌, ◌<◌, Option, Some, None, List, [], ◌∷◌, ◌++◌, length, get_or, refl, sym, ap, ◌∙◌, inl, inr, ◌⊎◌, take, drop, append-nil, arith, length-append, length-drop}
 use Rattle.std.proofs.lemmas.Bool.{le-leb, lt-leb, cases_lt}
-use Rattle.std.proofs.lemmas.List.{get_or_append_left, get_or-append_right}
+use Rattle.std.proofs.Math.ListN.{replicate, drop_of_length-le}
+use Rattle.std.proofs.lemmas.List.{get_or_append_left, get_or-append_right, get_or-take, length-take-le, ext_get_or}
 use Rattle.std.specs.Option.{OnSome}
+use borrow.Rule.Slice.PartMut.{put_mid}
+use Rattle.paper.specs.Outcome.{padded}
 use Rattle.lines.specs.Bracket.{end_within, IsWrittenAt}
 
 -- The text was put at its place, ends here, and is within the limit if it is not empty.
@@ -20,7 +23,7 @@ end_inside limit at text l = rw (le-leb (at + length text) limit l) refl
 pub end_past : (limit at : ℕ) (text : List ℕ) → limit < at + length text → end_within limit at text ≡ None
 end_past limit at text l = rw (lt-leb (at + length text) limit l) refl
 
-ends_at : (limit at end : ℕ) (text : List ℕ) → Some end ≡ end_within limit at text → (at + length text ≡ end) × (end ≤ limit)
+pub ends_at : (limit at end : ℕ) (text : List ℕ) → Some end ≡ end_within limit at text → (at + length text ≡ end) × (end ≤ limit)
 ends_at limit at end text e = go (cases_lt limit (at + length text))
   where
     go : (limit < at + length text) ⊎ (at + length text ≤ limit) → (at + length text ≡ end) × (end ≤ limit)
@@ -94,3 +97,24 @@ module _ {limit at middle : ℕ} {old mid s : List ℕ} (p : IsPut limit old at 
       go : (0 < length s) ⊎ (length s ≤ 0) → middle ≤ limit
       go (inl some) = p.fits some
       go (inr none) = omega (arith, p.ends)
+
+-- ---- a buffer that the text begins
+
+module _ {old text new : List ℕ} (w : IsWrittenAt old 0 text new) (fits : length text ≤ length old) where
+  begins : take (length text) new ≡ text
+  begins =
+      let size : length (take (length text) new) ≡ length text = length-take-le (length text) new (omega (arith, w.size)) in
+      ext_get_or 0 (take (length text) new) text size
+      (λ k l.
+      let m : k < length text = omega arith in
+      let here : 0 + k ≡ k = omega arith in
+      get_or-take (length text) new k 0 m ∙ rw here at (w.inside k m (omega arith)))
+
+  -- the rest is filled with 0
+  pub filled : (end : ℕ) (rest : List ℕ) → end ≡ length text → rest ≡ replicate (length (take (length new - end) (drop end new))) 0
+      → put_mid end (length new - end) new rest ≡ padded text (length old)
+  filled end rest e r =
+      let over : drop (length new - end) (drop end new) ≡ [] = drop_of_length-le (drop end new) (omega (arith, length-drop end new)) in
+      let size : length (take (length new - end) (drop end new)) ≡ length old - length text =
+      length-take-le (length new - end) (drop end new) (omega (arith, length-drop end new)) ∙ omega (arith, w.size) in
+      rw (over, append-nil, r, size, e, begins) refl
