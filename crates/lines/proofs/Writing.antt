@@ -30,7 +30,7 @@ ends_at limit at end text e = go (cases_lt limit (at + length text))
     go (inl l) = absurd (let f = end_past limit at text l in let z : ⊥ = cc in z)
     go (inr l) = let f = end_inside limit at text l in let same : at + length text ≡ end = cc in (same, omega arith)
 
-passes : (limit at : ℕ) (text : List ℕ) → None ≡ end_within limit at text → limit < at + length text
+pub passes : (limit at : ℕ) (text : List ℕ) → None ≡ end_within limit at text → limit < at + length text
 passes limit at text e = go (cases_lt limit (at + length text))
   where
     go : (limit < at + length text) ⊎ (at + length text ≤ limit) → limit < at + length text
