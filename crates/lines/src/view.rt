@@ -5,7 +5,7 @@ ghost use Rattle.std.specs.Result.{result_err};
 ghost use Rattle.paper.specs.Lines.{line_from, line_to};
 ghost use Rattle.paper.specs.Outcome.{ViewOutcome};
 ghost use Rattle.paper.specs.declared.Refusal.{Refusal};
-ghost use Rattle.lines.specs.View.{part_between};
+ghost use Rattle.lines.specs.View.{part_between, view_from, bytes_on};
 
 use crate::calls::check;
 use crate::line::{count, from, to};
@@ -27,7 +27,10 @@ pub fn view_places(image: &[u8], tokens: &[u8], lines: &[u16], k: usize) -> Resu
 
 /// The words under line k, as that part of the row; the empty part at place 0 if it is refused.
 pub fn view<'a>(image: &[u8], tokens: &'a [u8], lines: &[u16], k: usize) -> &'a [u8]
-    ensures { (refusal : Option Refusal) × ViewOutcome image.now tokens.now lines.now k refusal result.now }
+    ensures outcome { (refusal : Option Refusal) × ViewOutcome image.now tokens.now lines.now k refusal result.now }
+
+    // It is that very part of the row, in the same memory, and no copy.
+    ensures part { (refusal : Option Refusal) → ViewOutcome image.now tokens.now lines.now k refusal result.now → result.ref_ptr ≡ bytes_on tokens.entry.ref_ptr (view_from lines.now k refusal) }
 {
     match view_places(image, tokens, lines, k) {
         Ok((from, to)) => &tokens[usize::from(from.0)..usize::from(to.0)],
