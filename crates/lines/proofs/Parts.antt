@@ -119,11 +119,11 @@ module _ {g : Grammar} {row ns : List ℕ} {k : ℕ} where
 -- ---- the slots of a line
 
 module _ (ns : List ℕ) (k : ℕ) (line : k < line_count ns) (few : line_parts ns k ≤ 8) where
-  slots_length : length (part_slots ns k) ≡ line_parts ns k
+  pub slots_length : length (part_slots ns k) ≡ line_parts ns k
   slots_length = length-take-le (line_parts ns k) (drop (line_size * k + 4) ns) (omega (arith, length-drop (line_size * k + 4) ns))
 
   -- the slots from slot x on
-  slots_from : (x : ℕ) → x < line_parts ns k → drop x (part_slots ns k) ≡ line_slot ns k x ∷ drop (x + 1) (part_slots ns k)
+  pub slots_from : (x : ℕ) → x < line_parts ns k → drop x (part_slots ns k) ≡ line_slot ns k x ∷ drop (x + 1) (part_slots ns k)
   slots_from x l =
       let in_slots : x < length (part_slots ns k) = omega (arith, slots_length) in
       let is_slot : get_or (part_slots ns k) x 0 ≡ line_slot ns k x =
@@ -131,7 +131,7 @@ module _ (ns : List ℕ) (k : ℕ) (line : k < line_count ns) (few : line_parts 
       rw (add-one, ← is_slot) (drop-cons (part_slots ns k) x 0 in_slots)
 
   -- none is behind the last
-  slots_all : drop (line_parts ns k) (part_slots ns k) ≡ []
+  pub slots_all : drop (line_parts ns k) (part_slots ns k) ≡ []
   slots_all = drop_of_length-le (part_slots ns k) (omega (arith, slots_length))
 
 -- the rest that is left once a symbol is taken
