@@ -1,6 +1,5 @@
-use Rattle.std.proofs.Common.{◌≡◌, ℕ, [], ◌∷◌, ◌++◌, ◌+◌, ◌-◌, ◌<◌, ◌≤◌, length, get_or, sym, ap, ◌∙◌, arith, length-append}
-use Rattle.paper.specs.Image.{grammar_of}
-use Rattle.paper.specs.Lines.{line_count, line_rule, line_from, decimal, parts_text, texts_below, part_slots, bracket_of, LineRight}
+use Rattle.std.proofs.Common.{◌≡◌, [], ◌∷◌, ◌++◌, ◌-◌, length, get_or, sym, ap, ◌∙◌, arith, length-append}
+use Rattle.paper.specs.Lines.{line_rule, decimal, bracket_of}
 use Rattle.lines.proofs.Writing.{nothing_put, put_more, all_put, none_put, end_more, written_more, put_within}
 use Rattle.lines.proofs.Spelling.{all_parts, whole_text, whole_length, few_parts, none_spelled, all_spelled, spelled_within, token_spelled, line_spelled}
 use Rattle.lines.proofs.bracket.+bracket.Goals as goal
@@ -74,7 +73,7 @@ put_parts-returns-in_err-at-clause-end t c =
     let fits = spelled_within token.1 in
     c.from_residual.ensures
     ∙ sym (none_put i.put (32 ∷ []) (all_parts row c.args.lines.now c.args.k) c.in_err-at.ensures.end
-      (omega (arith, length-append (i.done ++ (32 ∷ [])) number, length-append i.done (32 ∷ []))))
+    (omega (arith, length-append (i.done ++ (32 ∷ [])) number, length-append i.done (32 ∷ []))))
 
 pub put_parts-bounds-input-place : goal.put_parts-bounds-input-place
 put_parts-bounds-input-place t c =
@@ -93,7 +92,7 @@ put_parts-returns-in_err-at-2-clause-end t c =
     let p = put_more i.put (32 ∷ []) c.in_ok-at.ensures.end c.in_ok-at.ensures.text in
     c.from_residual-in_err-at-2.ensures
     ∙ sym (none_put p number (all_parts row c.args.lines.now c.args.k) (rw c.from.ensures at c.in_err-at-2.ensures.end)
-      (omega (arith, length-append (i.done ++ (32 ∷ [])) number)))
+    (omega (arith, length-append (i.done ++ (32 ∷ [])) number)))
 
 pub put_parts-overflow_add-place : goal.put_parts-overflow_add-place
 put_parts-overflow_add-place t c =
