@@ -1,0 +1,3 @@
+pub mod Counting
+pub mod Pricing
+pub mod Demands
