@@ -3,3 +3,4 @@ pub mod Cells
 pub mod Growing
 pub mod Grown
 pub mod Learning
+pub mod Causes
