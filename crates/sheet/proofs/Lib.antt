@@ -13,3 +13,5 @@ pub mod Opening
 pub mod Places
 pub mod Predicting
 pub mod Underway
+pub mod Ranking
+pub mod Staging

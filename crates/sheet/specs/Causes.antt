@@ -2,7 +2,7 @@
 -- Assumes nothing.
 use Rattle.std.specs.Prelude.{◌≡◌, ◌≢◌, cond, List, [], ◌∷◌, ℕ, suc, ◌/◌, ◌%◌, ◌≤◌, ◌<◌, eqb, length, get_or, max}
 use mathlib.Core.List.{Memᴰ}
-use Rattle.paper.specs.Grammar.{Grammar, left, members}
+use Rattle.paper.specs.Grammar.{Grammar, left}
 use Rattle.tables.specs.Machine.{full_byte, Leaves}
 use Rattle.tables.specs.Table.{rank}
 use Rattle.sheet.specs.Cells.{key, stage}

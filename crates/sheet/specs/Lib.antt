@@ -4,3 +4,4 @@ pub mod Growing
 pub mod Grown
 pub mod Learning
 pub mod Causes
+pub mod Stages

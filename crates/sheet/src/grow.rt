@@ -10,6 +10,7 @@ ghost use Rattle.tables.specs.Masks.{entry_with};
 ghost use Rattle.sheet.specs.Learning.{IsNoted, AreEmptyParts, GainsLeft};
 ghost use Rattle.sheet.specs.Growing.{Holds, LookedFor, Reaches, Advanced, Completed, Predicted};
 ghost use Rattle.sheet.specs.Grown.{cells_of, IsState, IsGrowth, IsTooMany};
+ghost use Rattle.sheet.specs.Stages.{stage_at};
 
 use crate::bytes::ByteSet;
 use crate::list::{KEYS, place};
@@ -69,6 +70,28 @@ fn take_each(input: &Input, entry: Entry, symbols: u64, bytes: &mut ByteSet)
     }
 }
 
+/// The stage of an entry that is put in with a stage: over an empty span the highest rank of the members that are found.
+fn stage_of(input: &Input, place: u8, entry: Entry, stage: u32) -> u32
+    requires rule { entry.rule.0 < rule_count (grammar_of input.now.grammar.now) }
+    requires stage { stage < 64 }
+    ensures stage { result ≡ stage_at (grammar_of input.now.grammar.now) input.now.ranks.now place entry.rule.0 entry.origin.0 entry.rest stage }
+    ensures small { result < 64 }
+{
+    if entry.origin.0 != place {
+        return stage;
+    }
+    let mut highest = 0;
+    let mut rest = entry.rest;
+    for k in 0..input.grammar.size(entry.rule) {
+        let rank = input.ranks[usize::from(input.grammar.member(entry.rule, k).0)];
+        if rest % 2 == 0 && highest < rank {
+            highest = rank;
+        }
+        rest /= 2;
+    }
+    u32::from(highest)
+}
+
 /// Puts an entry into the list, and all that becomes of it by taking empty parts.
 pub fn insert(
     input: &Input,
@@ -81,7 +104,7 @@ pub fn insert(
     requires rule { entry.rule.0 < rule_count (grammar_of input.now.grammar.now) }
     requires byte { IsByte (grammar_of input.now.grammar.now) entry.rule.0 entry.rest }
     requires found { Found (grammar_of input.now.grammar.now) input.now.tokens.now lists.old.place (entry_with (grammar_of input.now.grammar.now) entry.rule.0 entry.origin.0 entry.rest) }
-    requires stage { stage ≤ 64 }
+    requires stage { stage < 64 }
     ensures grown { OnOk result (IsGrowth input.now.grammar.now input.now.tokens.now entry.origin.0 entry.origin.0 words.old lists.old words.new lists.new) }
     ensures has { OnOk result (Holds (grammar_of input.now.grammar.now) (cells_of words.new lists.new) (entry_with (grammar_of input.now.grammar.now) entry.rule.0 entry.origin.0 entry.rest)) }
     ensures few { IfErr result (λ why. (why ≡ Refusal.FewWords) × IsTooMany input.now.grammar.now input.now.tokens.now (length words.old)) }
@@ -90,6 +113,7 @@ pub fn insert(
     while let Some(rest) = pending.take_greatest() {
         let part = Entry { rest, ..entry };
         let base = lists.starts[usize::from(lists.place)];
+        let stage = stage_of(input, lists.place, part, stage);
         if place(words, base, lists.end, part.word() + stage * KEYS)? {
             lists.end += 1;
             let empty = learn(input, lists, part);
@@ -111,7 +135,7 @@ pub fn advance(
     requires state { IsState input.now.grammar.now input.now.tokens.now words.old lists.old }
     requires earlier { i < lists.old.place }
     requires reaches { Reaches (grammar_of input.now.grammar.now) input.now.tokens.now i lists.old.place x.0 }
-    requires stage { stage ≤ 64 }
+    requires stage { stage < 64 }
     ensures grown { OnOk result (IsGrowth input.now.grammar.now input.now.tokens.now 0 i words.old lists.old words.new lists.new) }
     ensures advanced { OnOk result (Advanced (grammar_of input.now.grammar.now) input.now.tokens.now i x.0 (cells_of words.new lists.new)) }
     ensures few { IfErr result (λ why. (why ≡ Refusal.FewWords) × IsTooMany input.now.grammar.now input.now.tokens.now (length words.old)) }
