@@ -86,3 +86,7 @@ module _ {done x : ℕ} (range : Fits w64 done) (small : x < 64) (new : bit_at x
       go : Dec (y ≡ x) → Now y
       go (yes e) = rw e here
       go (no ne) = onward y (each y (sym (set_other x y done new ne) ∙ (ap (bit_at y) (sym with_one) ∙ h)))
+
+-- without 0 there are fewer
+pub zero_fewer : {done : ℕ} → Fits w64 done → bit_at 0 done ≡ 0 → ones done < 64
+zero_fewer range none = ones_few {x = 0} range (omega arith) none

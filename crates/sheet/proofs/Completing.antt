@@ -35,13 +35,16 @@ module _ {image row old new : List ℕ} {before after : Lists} {i done stage : �
   still_earlier : i < after.place
   still_earlier = omega (arith, v.grown.place_is)
 
+  pub next_finished : {x : ℕ} → bit_at x (get_or after.found from 0) ≡ 1 → FinishedFrom (grammar_of image) (cells_of new after) i x
+  next_finished {x} e = (v.grown.state.growing.found_is i x still_earlier).0 (rw same at e)
+
   pub next_reaches : {x : ℕ} → bit_at x (get_or after.found from 0) ≡ 1 → Reaches (grammar_of image) row i after.place x
-  next_reaches {x} e = finished_reaches v.grown.state ((v.grown.state.growing.found_is i x still_earlier).0 (rw same at e))
+  next_reaches {x} e = finished_reaches v.grown.state (next_finished e)
 
   -- no terminal is finished
   pub next_some : IsGrammar (grammar_of image) → {x : ℕ} → bit_at x (get_or after.found from 0) ≡ 1 → x ≢ 0
   next_some is {x} e z =
-      let f = (v.grown.state.growing.found_is i x still_earlier).0 (rw same at e) in
+      let f = next_finished e in
       let k = found_possible (v.grown.state.growing.sound f.entry f.stands) in
       let n = is.left_is f.entry.rule k.is_rule in
       omega (arith, n.above, f.left_is, is.a_terminal)

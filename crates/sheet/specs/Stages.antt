@@ -1,6 +1,6 @@
 -- Why each cell of a list stands while the list grows, what its stage is, and what an operation leaves of it.
 -- Assumes nothing.
-use Rattle.std.specs.Prelude.{◌≡◌, ◌⊎◌, cond, List, ℕ, suc, ◌≤◌, ◌<◌, eqb, length, get_or, take}
+use Rattle.std.specs.Prelude.{◌≡◌, ◌⊎◌, cond, List, ℕ, suc, ◌≤◌, ◌<◌, eqb, length, get_or, take, slice_set}
 use Rattle.std.proofs.Math.Seq.{slice}
 use mathlib.Core.List.{Memᴰ}
 use Rattle.paper.specs.Grammar.{Grammar, members}
@@ -32,6 +32,11 @@ pub data Reason (g : Grammar) (row : List ℕ) (j : ℕ) (lists : ℕ → List �
       → Reason g row j lists cells h i m s
   empty : (x p : ℕ) → DerivesNothing g x → Memᴰ p cells → GivesByte g x p h i m → stage p ≤ s → Reason g row j lists cells h i m s
 
+-- Why symbol x may be taken from list i, and gives stage s to what has origin i: it is the token before list j; or it is finished from i with a lower stage.
+pub data IsSource (g : Grammar) (row : List ℕ) (j : ℕ) (cells : List ℕ) (i x s : ℕ) : Type 0 where
+  token : j ≡ suc i → x ≡ get_or row i 0 → IsSource g row j cells i x s
+  fact : (f : ℕ) → Memᴰ f cells → IsFinishedOf g x i f → stage f < s → IsSource g row j cells i x s
+
 -- Each cell has a reason, over an empty span the highest rank of what is found, and a stage of six bits.
 pub record IsStaged (g : Grammar) (row ranks : List ℕ) (j : ℕ) (lists : ℕ → List ℕ) (cells : List ℕ) : Type 0 where
   pub reasons : (c : ℕ) → Memᴰ c cells → Reason g row j lists cells (rule_in c) (origin_in c) (byte_in c) (stage c)
@@ -62,9 +67,13 @@ pub record IsPut (i s j c : ℕ) : Type 0 where
 
 -- Each cell of the list that grows was there, or has origin i and stage s.
 pub record Puts (i s : ℕ) (old : List ℕ) (before : Lists) (new : List ℕ) (after : Lists) : Type 0 where
-  pub each : (c : ℕ) → Memᴰ c (cells_of new after) → Memᴰ c (cells_of old before) ⊎ IsPut i s before.place c
+  pub each : (c : ℕ) → Memᴰ c (cells_of new after) → Memᴰ c (cells_of old before) ⊎ IsPut i s after.place c
 
 -- List e is done: each of its cells in which something is found has a cause, and all are of 29 bits.
 pub record IsCausedList (g : Grammar) (row : List ℕ) (lists : ℕ → List ℕ) (e : ℕ) : Type 0 where
   pub caused : IsCaused g row lists e
   pub small : (c : ℕ) → Memᴰ c (lists e) → c < 536870912
+
+-- the starts, with the end of the list that grows
+abbrev pub starts_with : Lists → List ℕ
+starts_with lists = slice_set lists.starts (suc lists.place) lists.end
