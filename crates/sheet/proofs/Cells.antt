@@ -28,7 +28,7 @@ key_in x (y ∷ s) = go (ltb (key x) (key y)) (eqb (key x) (key y)) refl (key_in
     go false true e r = (y, Memᴰ.head refl, sym (eqb-true (key x) (key y) e))
     go false false e r = (r.0, Memᴰ.tail r.1, r.2)
 
-kept_in : (x : ℕ) (s : List ℕ) {z : ℕ} → Memᴰ z s → Memᴰ z (insert key x s)
+pub kept_in : (x : ℕ) (s : List ℕ) {z : ℕ} → Memᴰ z s → Memᴰ z (insert key x s)
 unfolding insert_all
 kept_in x s m = insert_all_keeps key (x ∷ []) s m
 

@@ -62,6 +62,18 @@ module _ {done x : ℕ} (range : Fits w64 done) (small : x < 64) (new : bit_at x
   pub ones_few : ones done < 64
   ones_few = omega (arith, ones-le 64 (done + 2 ^ x) (set_lt 64 x done small fits new), ones_set x done new)
 
+  -- where neither is 0, fewer still
+  pub ones_fewer : bit_at 0 done ≡ 0 → x ≢ 0 → suc (ones done) < 64
+  ones_fewer none some =
+      let other : 0 ≢ x = λ e. some (sym e) in
+      let z : bit_at 0 (done + 2 ^ x) ≡ 0 = set_other x 0 done new other ∙ none in
+      omega (arith, ones-le 64 (done + 2 ^ x + 2 ^ 0) (set_lt 64 0 (done + 2 ^ x) (omega arith) (set_lt 64 x done small fits new) z), ones_set x done new, ones_set 0 (done + 2 ^ x) z)
+
+  pub zero_not_done : bit_at 0 done ≡ 0 → x ≢ 0 → bit_at 0 (bit_or done (1 * 2 ^ x % 18446744073709551616)) ≡ 0
+  zero_not_done none some =
+      let other : 0 ≢ x = λ e. some (sym e) in
+      ap (bit_at 0) with_one ∙ (set_other x 0 done new other ∙ none)
+
   -- fewer are left to be done
   pub fewer : 64 - ones (bit_or done (1 * 2 ^ x % 18446744073709551616)) < 64 - ones done
   fewer = omega (arith, ones_few, ones_more)
@@ -74,3 +86,7 @@ module _ {done x : ℕ} (range : Fits w64 done) (small : x < 64) (new : bit_at x
       go : Dec (y ≡ x) → Now y
       go (yes e) = rw e here
       go (no ne) = onward y (each y (sym (set_other x y done new ne) ∙ (ap (bit_at y) (sym with_one) ∙ h)))
+
+-- without 0 there are fewer
+pub zero_fewer : {done : ℕ} → Fits w64 done → bit_at 0 done ≡ 0 → ones done < 64
+zero_fewer range none = ones_few {x = 0} range (omega arith) none

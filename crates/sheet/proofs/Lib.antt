@@ -16,3 +16,12 @@ pub mod Places
 pub mod Predicting
 pub mod Tally
 pub mod Underway
+pub mod Ranking
+pub mod Staging
+pub mod Reasons
+pub mod Arriving
+pub mod Sourcing
+pub mod Facts
+pub mod Causing
+pub mod Ongoing
+pub mod Linked

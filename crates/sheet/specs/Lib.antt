@@ -4,3 +4,5 @@ pub mod Counting
 pub mod Growing
 pub mod Grown
 pub mod Learning
+pub mod Causes
+pub mod Stages

@@ -10,6 +10,7 @@ ghost use Rattle.tables.specs.Masks.{entry_with};
 ghost use Rattle.sheet.specs.Learning.{IsNoted, AreEmptyParts, GainsLeft};
 ghost use Rattle.sheet.specs.Growing.{Holds, LookedFor, Reaches, Advanced, Completed, Predicted};
 ghost use Rattle.sheet.specs.Grown.{cells_of, IsState, IsGrowth, IsTooMany};
+ghost use Rattle.sheet.specs.Stages.{stage_at, Reason, IsSource, list_in, IsLow, AreStaged, Stays, Puts};
 
 use crate::bytes::ByteSet;
 use crate::list::{KEYS, place};
@@ -72,6 +73,28 @@ fn take_each(input: &Input, entry: Entry, symbols: u64, bytes: &mut ByteSet)
     }
 }
 
+/// The stage of an entry that is put in with a stage: over an empty span the highest rank of the members that are found.
+fn stage_of(input: &Input, place: u8, entry: Entry, stage: u32) -> u32
+    requires rule { entry.rule.0 < rule_count (grammar_of input.now.grammar.now) }
+    requires stage { stage < 64 }
+    ensures stage { result ≡ stage_at (grammar_of input.now.grammar.now) input.now.ranks.now place entry.rule.0 entry.origin.0 entry.rest stage }
+    ensures small { result < 64 }
+{
+    if entry.origin.0 != place {
+        return stage;
+    }
+    let mut highest = 0;
+    let mut rest = entry.rest;
+    for k in 0..input.grammar.size(entry.rule) {
+        let rank = input.ranks[usize::from(input.grammar.member(entry.rule, k).0)];
+        if rest % 2 == 0 && highest < rank {
+            highest = rank;
+        }
+        rest /= 2;
+    }
+    u32::from(highest)
+}
+
 /// Puts an entry into the list, and all that becomes of it by taking empty parts.
 pub fn insert(
     input: &Input,
@@ -84,15 +107,21 @@ pub fn insert(
     requires rule { entry.rule.0 < rule_count (grammar_of input.now.grammar.now) }
     requires byte { IsByte (grammar_of input.now.grammar.now) entry.rule.0 entry.rest }
     requires found { Found (grammar_of input.now.grammar.now) input.now.tokens.now lists.old.place (entry_with (grammar_of input.now.grammar.now) entry.rule.0 entry.origin.0 entry.rest) }
-    requires stage { stage ≤ 64 }
+    requires stage { stage < 64 }
+    requires staged { AreStaged input.now.grammar.now input.now.tokens.now input.now.ranks.now words.old lists.old }
+    requires reason { Reason (grammar_of input.now.grammar.now) input.now.tokens.now lists.old.place (list_in lists.old.starts words.old) (cells_of words.old lists.old) entry.rule.0 entry.origin.0 entry.rest stage }
     ensures grown { OnOk result (IsGrowth input.now.grammar.now input.now.tokens.now entry.origin.0 entry.origin.0 words.old lists.old words.new lists.new) }
     ensures has { OnOk result (Holds (grammar_of input.now.grammar.now) (cells_of words.new lists.new) (entry_with (grammar_of input.now.grammar.now) entry.rule.0 entry.origin.0 entry.rest)) }
+    ensures staged { OnOk result (AreStaged input.now.grammar.now input.now.tokens.now input.now.ranks.now words.new lists.new) }
+    ensures stays { OnOk result (Stays words.old lists.old words.new lists.new) }
+    ensures puts { OnOk result (Puts entry.origin.0 stage words.old lists.old words.new lists.new) }
     ensures few { IfErr result (λ why. (why ≡ Refusal.FewWords) × IsTooMany input.now.grammar.now input.now.tokens.now (length words.old)) }
 {
     let mut pending = ByteSet::of(entry.rest);
     while let Some(rest) = pending.take_greatest() {
         let part = Entry { rest, ..entry };
         let base = lists.starts[usize::from(lists.place)];
+        let stage = stage_of(input, lists.place, part, stage);
         if place(words, base, lists.end, part.word() + stage * KEYS)? {
             lists.end += 1;
             let empty = learn(input, lists, part);
@@ -114,9 +143,15 @@ pub fn advance(
     requires state { IsState input.now.grammar.now input.now.tokens.now words.old lists.old }
     requires earlier { i < lists.old.place }
     requires reaches { Reaches (grammar_of input.now.grammar.now) input.now.tokens.now i lists.old.place x.0 }
-    requires stage { stage ≤ 64 }
+    requires stage { stage < 64 }
+    requires staged { AreStaged input.now.grammar.now input.now.tokens.now input.now.ranks.now words.old lists.old }
+    requires source { IsSource (grammar_of input.now.grammar.now) input.now.tokens.now lists.old.place (cells_of words.old lists.old) i x.0 stage }
+    requires low { IsLow i stage (cells_of words.old lists.old) }
     ensures grown { OnOk result (IsGrowth input.now.grammar.now input.now.tokens.now 0 i words.old lists.old words.new lists.new) }
     ensures advanced { OnOk result (Advanced (grammar_of input.now.grammar.now) input.now.tokens.now i x.0 (cells_of words.new lists.new)) }
+    ensures staged { OnOk result (AreStaged input.now.grammar.now input.now.tokens.now input.now.ranks.now words.new lists.new) }
+    ensures stays { OnOk result (Stays words.old lists.old words.new lists.new) }
+    ensures low { OnOk result (IsLow i stage (cells_of words.new lists.new)) }
     ensures few { IfErr result (λ why. (why ≡ Refusal.FewWords) × IsTooMany input.now.grammar.now input.now.tokens.now (length words.old)) }
 {
     let from = usize::from(i);
@@ -147,8 +182,13 @@ fn next_symbol(set: u64, done: u64) -> Option<SymbolNo>
 pub fn complete(input: &Input, words: &mut [u32], lists: &mut Lists, i: u8) -> Result<(), Refusal>
     requires state { IsState input.now.grammar.now input.now.tokens.now words.old lists.old }
     requires earlier { i < lists.old.place }
+    requires staged { AreStaged input.now.grammar.now input.now.tokens.now input.now.ranks.now words.old lists.old }
+    requires low { IsLow i 0 (cells_of words.old lists.old) }
     ensures grown { OnOk result (IsGrowth input.now.grammar.now input.now.tokens.now 0 i words.old lists.old words.new lists.new) }
     ensures completed { OnOk result (Completed (grammar_of input.now.grammar.now) input.now.tokens.now i (cells_of words.new lists.new)) }
+    ensures staged { OnOk result (AreStaged input.now.grammar.now input.now.tokens.now input.now.ranks.now words.new lists.new) }
+    ensures stays { OnOk result (Stays words.old lists.old words.new lists.new) }
+    ensures low { OnOk result (IsLow i 63 (cells_of words.new lists.new)) }
     ensures few { IfErr result (λ why. (why ≡ Refusal.FewWords) × IsTooMany input.now.grammar.now input.now.tokens.now (length words.old)) }
 {
     let mut done = 0;
@@ -171,8 +211,11 @@ fn predict_symbol(
     requires state { IsState input.now.grammar.now input.now.tokens.now words.old lists.old }
     requires nonterminal { IsNonterminal (grammar_of input.now.grammar.now) x.0 }
     requires looked_for { LookedFor (grammar_of input.now.grammar.now) lists.old.place (cells_of words.old lists.old) x.0 }
+    requires staged { AreStaged input.now.grammar.now input.now.tokens.now input.now.ranks.now words.old lists.old }
     ensures grown { OnOk result (IsGrowth input.now.grammar.now input.now.tokens.now lists.old.place lists.old.place words.old lists.old words.new lists.new) }
     ensures predicted { OnOk result ((h : ℕ) → h < rule_count (grammar_of input.now.grammar.now) → left (grammar_of input.now.grammar.now) h ≡ x.0 → Holds (grammar_of input.now.grammar.now) (cells_of words.new lists.new) (fresh (grammar_of input.now.grammar.now) h lists.old.place)) }
+    ensures staged { OnOk result (AreStaged input.now.grammar.now input.now.tokens.now input.now.ranks.now words.new lists.new) }
+    ensures stays { OnOk result (Stays words.old lists.old words.new lists.new) }
     ensures few { IfErr result (λ why. (why ≡ Refusal.FewWords) × IsTooMany input.now.grammar.now input.now.tokens.now (length words.old)) }
 {
     for h in input.grammar.first(x)..input.grammar.first(SymbolNo(x.0 + 1)) {
@@ -190,8 +233,11 @@ fn predict_symbol(
 /// Looks for the rules of each nonterminal that is looked for, once.
 pub fn predict(input: &Input, words: &mut [u32], lists: &mut Lists) -> Result<(), Refusal>
     requires state { IsState input.now.grammar.now input.now.tokens.now words.old lists.old }
+    requires staged { AreStaged input.now.grammar.now input.now.tokens.now input.now.ranks.now words.old lists.old }
     ensures grown { OnOk result (IsGrowth input.now.grammar.now input.now.tokens.now lists.old.place lists.old.place words.old lists.old words.new lists.new) }
     ensures predicted { OnOk result (Predicted (grammar_of input.now.grammar.now) lists.old.place (cells_of words.new lists.new)) }
+    ensures staged { OnOk result (AreStaged input.now.grammar.now input.now.tokens.now input.now.ranks.now words.new lists.new) }
+    ensures stays { OnOk result (Stays words.old lists.old words.new lists.new) }
     ensures few { IfErr result (λ why. (why ≡ Refusal.FewWords) × IsTooMany input.now.grammar.now input.now.tokens.now (length words.old)) }
 {
     let mut predicted = 0;

@@ -6,3 +6,4 @@ pub mod Ranks
 pub mod Empties
 pub mod Filling
 pub mod Admitting
+pub mod Recalling

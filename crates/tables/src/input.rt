@@ -5,16 +5,19 @@ ghost use Rattle.std.specs.Result.{result_err};
 ghost use Rattle.paper.specs.Demands.{IsFit};
 ghost use Rattle.paper.specs.Image.{all_below, grammar_of};
 ghost use Rattle.paper.specs.Outcome.{first_of, too_long, strange};
+ghost use Rattle.tables.specs.Table.{Ranked};
 
 use crate::Grammar;
 use paper::Refusal;
 
-/// A row of tokens and the grammar that is to read it. No token is anything but a terminal, and there are 64 at the most.
+/// A row of tokens, the grammar that is to read it, and the ranks of its symbols. No token is anything but a terminal, and there are 64 at the most.
 #[derive(Drop)]
 pub struct Input<'a> {
     pub grammar: &'a Grammar<'a>,
     pub tokens: &'a [u8],
+    pub ranks: &'a [u8; 64],
     ghost fits: { IsFit grammar.now tokens.now },
+    ghost ranked: { ∥ Ranked (grammar_of grammar.now) ranks.now ∥₁ },
 }
 
 /// Whether all tokens are below the limit.
@@ -38,6 +41,10 @@ impl<'a> Input<'a> {
         if !are_below(tokens, grammar.terminals()) {
             return Err(Refusal::StrangeToken);
         }
-        Ok(Input { grammar, tokens })
+        Ok(Input {
+            grammar,
+            tokens,
+            ranks: grammar.ranks(),
+        })
     }
 }

@@ -6,7 +6,7 @@ ghost use Rattle.paper.specs.Image.{grammar_of, image_fault};
 ghost use Rattle.paper.specs.Bits.{bit_at};
 ghost use Rattle.paper.specs.Derivation.{Derives};
 ghost use Rattle.paper.specs.Grammar.{IsNonterminal, rule_count, left, members, symbols, IsGrammar};
-ghost use Rattle.tables.specs.Table.{bars_of};
+ghost use Rattle.tables.specs.Table.{bars_of, Ranked};
 
 mod admit;
 pub mod input;
@@ -136,6 +136,13 @@ impl Grammar<'_> {
         ensures { (x : ℕ) → (bit_at x result ≡ 1) ↔ Derives (grammar_of self.now) (x ∷ []) [] }
     {
         self.empty_set
+    }
+
+    /// The rank of each symbol that derives the empty row; 0 for the others.
+    pub fn ranks(&self) -> &[u8; 64]
+        ensures { Ranked (grammar_of self.now) result.now }
+    {
+        &self.ranks
     }
 
     /// The number of the first rule whose left symbol is a or a later one.

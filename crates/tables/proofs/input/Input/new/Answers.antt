@@ -1,4 +1,5 @@
 use Rattle.std.proofs.Common.{sym, arith}
+use Rattle.std.proofs.lemmas.Grind.{merely}
 use Rattle.paper.proofs.Records.{all_below_lem}
 use Rattle.tables.proofs.input.Input.new.Goals as goal
 
@@ -12,4 +13,5 @@ invariant_of-result c =
           tokens_are = λ k l. record { below = all_below_lem _ c.args.tokens.now (rw c.terminals.ensures at (sym c.if-not-are_below.ensures)) k l };
         };
       };
+      ranked = merely c.ranks.ensures;
     }
