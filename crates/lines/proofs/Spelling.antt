@@ -21,6 +21,7 @@ text_below row ns (suc k) i l = go (cases_lt i k) (text_below row ns k i)
   where
     texts : List (List ℕ)
     texts = texts_below row ns k
+
     go : (i < k) ⊎ (k ≤ i) → (i < k → get_or texts i [] ≡ bracket_of row ns i) → get_or (texts ++ (line_text row ns texts k ∷ [])) i [] ≡ bracket_of row ns i
     go (inl m) below = get_or_append_left texts (line_text row ns texts k ∷ []) [] i (omega (arith, texts_length row ns k)) ∙ below m
     go (inr m) below = let same : k ≡ i = omega arith in get_or_push texts (line_text row ns texts k) [] i (texts_length row ns k ∙ same) ∙ ap (bracket_of row ns) same
@@ -40,12 +41,13 @@ pub whole_length : (row ns : List ℕ) (k : ℕ) → length (bracket_of row ns k
 whole_length row ns k =
     let inner = decimal (line_rule ns k) in
     let parts = all_parts row ns k in
-    omega
-    (arith,
+    omega (
+      arith,
       ap length (whole_text row ns k),
       length-append ((([] ++ (40 ∷ [])) ++ inner) ++ parts) (41 ∷ []),
       length-append (([] ++ (40 ∷ [])) ++ inner) parts,
-      length-append ([] ++ (40 ∷ [])) inner)
+      length-append ([] ++ (40 ∷ [])) inner,
+    )
 
 pub few_parts : {g : Grammar} {row ns : List ℕ} {k : ℕ} → IsGrammar g → LineRight g row ns k → line_parts ns k ≤ 8
 few_parts {ns = ns} {k = k} is right = omega (arith, right.parts_are, is.few_members (line_rule ns k) right.rule_is)

@@ -45,7 +45,14 @@ fn put_number(buffer: &mut [u8], at: usize, limit: usize, number: u16) -> Option
 
 /// Puts the bracket of line k.
 #[cycle(bracket)]
-fn put_line(input: &Input, lines: &[u16], k: usize, buffer: &mut [u8], at: usize, limit: usize) -> Option<usize>
+fn put_line(
+    input: &Input,
+    lines: &[u16],
+    k: usize,
+    buffer: &mut [u8],
+    at: usize,
+    limit: usize,
+) -> Option<usize>
     requires line { k < line_count lines.now }
     requires right { (i : ℕ) → i ≤ k → LineRight (grammar_of input.now.grammar.now) input.now.tokens.now lines.now i }
     ensures end { result ≡ end_within limit at (bracket_of input.now.tokens.now lines.now k) }
@@ -59,7 +66,14 @@ fn put_line(input: &Input, lines: &[u16], k: usize, buffer: &mut [u8], at: usize
 
 /// Puts the parts of line k: a space and the token, or the bracket of the part's own line, which is an earlier one.
 #[cycle(bracket)]
-fn put_parts(input: &Input, lines: &[u16], k: usize, buffer: &mut [u8], at: usize, limit: usize) -> Option<usize>
+fn put_parts(
+    input: &Input,
+    lines: &[u16],
+    k: usize,
+    buffer: &mut [u8],
+    at: usize,
+    limit: usize,
+) -> Option<usize>
     requires line { k < line_count lines.now }
     requires within { at ≤ limit }
     requires right { (i : ℕ) → i ≤ k → LineRight (grammar_of input.now.grammar.now) input.now.tokens.now lines.now i }
@@ -97,7 +111,12 @@ fn write_last(input: &Input, lines: &[u16], buffer: &mut [u8]) -> Option<usize>
 }
 
 /// Writes the bracket of the last line, and answers its length.
-pub fn bracket(image: &[u8], tokens: &[u8], lines: &[u16], buffer: &mut [u8]) -> Result<usize, Refusal>
+pub fn bracket(
+    image: &[u8],
+    tokens: &[u8],
+    lines: &[u16],
+    buffer: &mut [u8],
+) -> Result<usize, Refusal>
     ensures { BracketingOutcome image.now tokens.now lines.now buffer.old result buffer.new }
 {
     let grammar = Grammar::admit(image)?;

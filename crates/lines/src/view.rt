@@ -12,7 +12,12 @@ use crate::line::{count, from, to};
 use paper::{Place, Refusal};
 
 /// Where the words under line k begin and end, or why there are none.
-pub fn view_places(image: &[u8], tokens: &[u8], lines: &[u16], k: usize) -> Result<(Place, Place), Refusal>
+pub fn view_places(
+    image: &[u8],
+    tokens: &[u8],
+    lines: &[u16],
+    k: usize,
+) -> Result<(Place, Place), Refusal>
     ensures outcome { ViewOutcome image.now tokens.now lines.now k (result_err result) (part_between tokens.now result) }
     ensures places { IfOk result (λ places. (places.0.0 ≡ line_from lines.now k) × (places.1.0 ≡ line_to lines.now k)) }
 {

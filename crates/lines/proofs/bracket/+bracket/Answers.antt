@@ -74,7 +74,7 @@ put_parts-returns-in_err-at-clause-end t c =
     let fits = spelled_within token.1 in
     c.from_residual.ensures
     ∙ sym (none_put i.put (32 ∷ []) (all_parts row c.args.lines.now c.args.k) c.in_err-at.ensures.end
-      (omega (arith, length-append (i.done ++ (32 ∷ [])) number, length-append i.done (32 ∷ []))))
+    (omega (arith, length-append (i.done ++ (32 ∷ [])) number, length-append i.done (32 ∷ []))))
 
 pub put_parts-bounds-input-place : goal.put_parts-bounds-input-place
 put_parts-bounds-input-place t c =
@@ -93,7 +93,7 @@ put_parts-returns-in_err-at-2-clause-end t c =
     let p = put_more i.put (32 ∷ []) c.in_ok-at.ensures.end c.in_ok-at.ensures.text in
     c.from_residual-in_err-at-2.ensures
     ∙ sym (none_put p number (all_parts row c.args.lines.now c.args.k) (rw c.from.ensures at c.in_err-at-2.ensures.end)
-      (omega (arith, length-append (i.done ++ (32 ∷ [])) number)))
+    (omega (arith, length-append (i.done ++ (32 ∷ [])) number)))
 
 pub put_parts-overflow_add-place : goal.put_parts-overflow_add-place
 put_parts-overflow_add-place t c =
