@@ -1,6 +1,6 @@
 -- What the bracket writer and the view answer, from what the checker of lines answers.
 -- Assumes nothing.
-use Rattle.std.proofs.Common.{◌≡◌, ℕ, ◌+◌, ◌≤◌, ◌<◌, Bool, true, false, Option, Some, None, Result, Ok, Err, List, [], length, refl, sym, ap, ◌∙◌, subst, arith}
+use Rattle.std.proofs.Common.{◌≡◌, ℕ, ◌≤◌, ◌<◌, true, false, Option, Some, None, Result, Ok, Err, List, length, refl, sym, ap, ◌∙◌, subst, arith}
 use Rattle.std.specs.Option.{OnSome, is_some, ok_or}
 use Rattle.std.proofs.lemmas.Bool.{false≢true}
 use Rattle.paper.specs.Grammar.{Grammar}

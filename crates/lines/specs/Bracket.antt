@@ -1,6 +1,6 @@
 -- Text put into a lent buffer up to a limit.
 -- Assumes nothing.
-use Rattle.std.specs.Prelude.{◌≡◌, Option, Some, None, if◌then◌else◌, List, ℕ, ◌+◌, ◌-◌, ◌≤◌, ◌<◌, nat_le, length, get_or}
+use Rattle.std.specs.Prelude.{◌≡◌, Option, Some, None, if◌then◌else◌, List, ℕ, ◌+◌, ◌≤◌, ◌<◌, nat_le, length, get_or}
 
 -- where the text ends that starts at a place, if that is not past the limit
 abbrev pub end_within : ℕ → ℕ → List ℕ → Option ℕ

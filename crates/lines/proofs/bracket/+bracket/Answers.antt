@@ -1,6 +1,5 @@
-use Rattle.std.proofs.Common.{◌≡◌, ℕ, [], ◌∷◌, ◌++◌, ◌+◌, ◌-◌, ◌<◌, ◌≤◌, length, get_or, sym, ap, ◌∙◌, arith, length-append}
-use Rattle.paper.specs.Image.{grammar_of}
-use Rattle.paper.specs.Lines.{line_count, line_rule, line_from, decimal, parts_text, texts_below, part_slots, bracket_of, LineRight}
+use Rattle.std.proofs.Common.{◌≡◌, [], ◌∷◌, ◌++◌, ◌-◌, length, get_or, sym, ap, ◌∙◌, arith, length-append}
+use Rattle.paper.specs.Lines.{line_rule, decimal, bracket_of}
 use Rattle.lines.proofs.Writing.{nothing_put, put_more, all_put, none_put, end_more, written_more, put_within}
 use Rattle.lines.proofs.Spelling.{all_parts, whole_text, whole_length, few_parts, none_spelled, all_spelled, spelled_within, token_spelled, line_spelled}
 use Rattle.lines.proofs.bracket.+bracket.Goals as goal

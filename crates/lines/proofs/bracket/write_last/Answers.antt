@@ -1,4 +1,4 @@
-use Rattle.std.proofs.Common.{◌≡◌, ◌-◌, length, ◌∙◌, arith}
+use Rattle.std.proofs.Common.{◌-◌, length, ◌∙◌, arith}
 use Rattle.paper.specs.Lines.{bracket_of}
 use Rattle.lines.proofs.Writing.{filled, ends_at, end_inside}
 use Rattle.lines.proofs.bracket.write_last.Goals as goal
