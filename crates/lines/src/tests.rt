@@ -1,6 +1,8 @@
 // The lines of the plate `3 1 1 0 2`, whose bracket is `(0(2 3 1)(1 1 0 2))`, and some that are at fault.
 
+use crate::bracket::bracket;
 use crate::calls::check;
+use crate::view::{view, view_refusal};
 use paper::Refusal;
 
 const HOUSE: [u8; 36] = [
@@ -33,4 +35,39 @@ fn refuses_before_it_checks(rt: HostRuntime) {
     assert_eq!(rt; check(&HOUSE[..35], &[4], &[]), Err(Refusal::Contents));
     assert_eq!(rt; check(&HOUSE, &[4; 65], &[]), Err(Refusal::LongRow));
     assert_eq!(rt; check(&HOUSE, &[4; 64], &[]), Err(Refusal::StrangeToken));
+}
+
+#[test]
+fn writes_the_bracket_that_fits(rt: HostRuntime) {
+    let mut buffer = [7; 19];
+    assert_eq!(rt;
+        bracket(&HOUSE, &[3, 1, 1, 0, 2], &PLATE, &mut buffer),
+        Ok(19)
+    );
+    assert_eq!(rt; &buffer, b"(0(2 3 1)(1 1 0 2))");
+    let mut longer = [7; 20];
+    assert_eq!(rt;
+        bracket(&HOUSE, &[3, 1, 1, 0, 2], &PLATE, &mut longer),
+        Ok(19)
+    );
+    assert_eq!(rt; &longer, b"(0(2 3 1)(1 1 0 2))\0");
+    let mut shorter = [7; 18];
+    assert_eq!(rt;
+        bracket(&HOUSE, &[3, 1, 1, 0, 2], &PLATE, &mut shorter),
+        Err(Refusal::LongBracket)
+    );
+    assert_eq!(rt; shorter, [7; 18]);
+}
+
+#[test]
+fn views_the_words_under_a_line(rt: HostRuntime) {
+    let tokens = [3, 1, 1, 0, 2];
+    assert_eq!(rt; view(&HOUSE, &tokens, &PLATE, 0), &tokens[..2]);
+    assert_eq!(rt; view(&HOUSE, &tokens, &PLATE, 1), &tokens[2..]);
+    assert_eq!(rt; view_refusal(&HOUSE, &tokens, &PLATE, 1), None);
+    assert_eq!(rt; view(&HOUSE, &tokens, &PLATE, 3), &tokens[..0]);
+    assert_eq!(rt;
+        view_refusal(&HOUSE, &tokens, &PLATE, 3),
+        Some(Refusal::NoLine)
+    );
 }
