@@ -3,6 +3,7 @@ pub mod ByteSets
 pub mod Cells
 pub mod Choosing
 pub mod Completing
+pub mod Counted
 pub mod Counting
 pub mod Emptying
 pub mod Exact

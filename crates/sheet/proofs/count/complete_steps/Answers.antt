@@ -1,5 +1,6 @@
 use Rattle.std.proofs.Common.{arith, ◌≡◌, ◌∙◌, ◌+◌, ◌*◌}
-use Rattle.sheet.proofs.Counting.{completed_none, completed_more, completed_past, complete_is, partly_few}
+use Rattle.sheet.proofs.Counted.{completed_none, completed_more, completed_past}
+use Rattle.sheet.proofs.Counting.{complete_is, partly_few}
 use Rattle.sheet.proofs.count.complete_steps.Goals as goal
 use Rattle.sheet.proofs.count.complete_steps.Goals.{then-ended-c-gt0, else-ended-c-gt0}
 

@@ -1,6 +1,6 @@
 use Rattle.std.proofs.Common.{arith, ◌∙◌}
 use Rattle.sheet.proofs.Listed.{cell_says}
-use Rattle.sheet.proofs.Counting.{ending_first, ending_more, ending_past, ending_few, ending_last, number_small}
+use Rattle.sheet.proofs.Counted.{ending_first, ending_more, ending_past, ending_few, ending_last, number_small}
 use Rattle.sheet.proofs.count.count_ended.Goals as goal
 use Rattle.sheet.proofs.count.count_ended.Goals.{then-entry-eq0, else-entry-eq0}
 

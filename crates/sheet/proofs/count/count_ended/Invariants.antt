@@ -1,5 +1,5 @@
 use Rattle.paper.specs.Image.{grammar_of}
-use Rattle.sheet.proofs.Counting.{IsEnding}
+use Rattle.sheet.proofs.Counted.{IsEnding}
 use Rattle.sheet.proofs.count.count_ended.Given as goal
 
 abbrev pub invariant-loop-cell : goal.invariant-loop-cell

@@ -1,7 +1,8 @@
 use Rattle.std.proofs.Common.{arith, ◌≡◌, ◌+◌, length, ap, ◌∙◌}
 use Rattle.paper.specs.Image.{grammar_of}
 use Rattle.sheet.specs.Counting.{rules_with}
-use Rattle.sheet.proofs.Counting.{steps_none, steps_next, steps_few, partial_few, rules_few, steps_are}
+use Rattle.sheet.proofs.Counted.{steps_none, steps_next, rules_few}
+use Rattle.sheet.proofs.Counting.{steps_few, partial_few, steps_are}
 use Rattle.sheet.proofs.count.count_steps.Goals as goal
 
 pub loop-j-init : goal.loop-j-init

@@ -1,6 +1,6 @@
 use Rattle.std.proofs.Common.{arith, sym, refl, ◌∙◌}
 use Rattle.sheet.proofs.Listed.{cell_says}
-use Rattle.sheet.proofs.Counting.{tally_first, tops_more, tops_unfinished, tops_later, tops_other, tops_small, tops_last}
+use Rattle.sheet.proofs.Counted.{tally_first, tops_more, tops_unfinished, tops_later, tops_other, tops_small, tops_last}
 use Rattle.sheet.proofs.count.count_tops.Goals as goal
 use Rattle.sheet.proofs.count.count_tops.Goals.{then-entry-eq0+then-entry-eq0-2+then-eq, else-entry-eq0, else-entry-eq0-via-then-entry-eq0+then-entry-eq0-2+else-eq, else-entry-eq0-via-then-entry-eq0+else-entry-eq0-2, else-entry-eq0-via-else-entry-eq0}
 

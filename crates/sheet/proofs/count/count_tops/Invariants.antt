@@ -1,6 +1,6 @@
 use Rattle.std.proofs.Common.{length}
 use Rattle.paper.specs.Image.{grammar_of}
-use Rattle.sheet.proofs.Counting.{Tallied, topped}
+use Rattle.sheet.proofs.Counted.{Tallied, topped}
 use Rattle.sheet.proofs.count.count_tops.Given as goal
 
 abbrev pub invariant-loop-cell : goal.invariant-loop-cell

@@ -1,6 +1,7 @@
 use Rattle.std.proofs.Common.{arith, get_or}
 use Rattle.paper.specs.Image.{grammar_of}
-use Rattle.sheet.proofs.Counting.{predict_few, complete_few, waiting_few, steps_sum, scan_here, scan_past}
+use Rattle.sheet.proofs.Counted.{steps_sum}
+use Rattle.sheet.proofs.Counting.{predict_few, complete_few, waiting_few, scan_here, scan_past}
 use Rattle.sheet.proofs.count.list_steps.Goals as goal
 
 pub overflow_add-steps : goal.overflow_add-steps

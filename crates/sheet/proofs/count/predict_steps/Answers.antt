@@ -1,6 +1,6 @@
 use Rattle.std.proofs.Common.{arith}
 use Rattle.sheet.proofs.Listed.{cell_says}
-use Rattle.sheet.proofs.Counting.{tally_first, tally_more, predict_small, predict_last}
+use Rattle.sheet.proofs.Counted.{tally_first, tally_more, predict_small, predict_last}
 use Rattle.sheet.proofs.count.predict_steps.Goals as goal
 
 pub loop-cell-init : goal.loop-cell-init

@@ -1,5 +1,5 @@
 use Rattle.paper.specs.Image.{grammar_of}
-use Rattle.sheet.proofs.Counting.{Tallied, predicts}
+use Rattle.sheet.proofs.Counted.{Tallied, predicts}
 use Rattle.sheet.proofs.count.predict_steps.Given as goal
 
 abbrev pub invariant-loop-cell : goal.invariant-loop-cell

@@ -4,7 +4,7 @@ use lib.Count.{count_trailing_zeros}
 use Rattle.paper.specs.Bits.{bit_at}
 use borrow.Author.Numbers.{trailing_lt}
 use Rattle.paper.proofs.Bits.{trailing_set, bit_power_le, clear_lt}
-use Rattle.sheet.proofs.Counting.{predicted_first, predicted_more, predicted_few, predicted_last}
+use Rattle.sheet.proofs.Counted.{predicted_first, predicted_more, predicted_few, predicted_last}
 use Rattle.sheet.proofs.count.predictions.Goals as goal
 
 pub loop-symbols-init : goal.loop-symbols-init

@@ -1,4 +1,4 @@
-use Rattle.sheet.proofs.Counting.{IsPredicted}
+use Rattle.sheet.proofs.Counted.{IsPredicted}
 use Rattle.paper.specs.Image.{grammar_of}
 use Rattle.sheet.proofs.count.predictions.Given as goal
 

@@ -2,7 +2,7 @@ use Rattle.std.proofs.Common.{arith, ap, sym, ◌∙◌}
 use Rattle.paper.specs.Image.{grammar_of}
 use Rattle.paper.specs.Multiset.{bit}
 use Rattle.sheet.proofs.Listed.{cell_says}
-use Rattle.sheet.proofs.Counting.{tally_first, tally_more, tally_none, taken_is, waiting_small, waiting_last}
+use Rattle.sheet.proofs.Counted.{tally_first, tally_more, tally_none, taken_is, waiting_small, waiting_last}
 use Rattle.sheet.proofs.count.waiting.Goals as goal
 use Rattle.sheet.proofs.count.waiting.Goals.{then-is_some, else-is_some}
 

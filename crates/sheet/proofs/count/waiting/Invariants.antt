@@ -1,5 +1,5 @@
 use Rattle.paper.specs.Image.{grammar_of}
-use Rattle.sheet.proofs.Counting.{Tallied, waits}
+use Rattle.sheet.proofs.Counted.{Tallied, waits}
 use Rattle.sheet.proofs.count.waiting.Given as goal
 
 abbrev pub invariant-loop-cell : goal.invariant-loop-cell
