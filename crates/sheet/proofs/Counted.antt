@@ -1,6 +1,6 @@
 -- The loops that count: what is counted once some rules, entries or lists are done, and at the end.
 -- Assumes nothing.
-use Rattle.std.proofs.Common.{◌≡◌, ◌≢◌, ◌↔◌, ℕ, ◌+◌, ◌-◌, ◌*◌, ◌/◌, ◌%◌, ◌^◌, ◌≤◌, ◌<◌, Bool, true, false, eqb, List, length, get_or, set, replicate, Option, Some, None, subst, bit_and, get_or-set_other, get_or-set_same, refl, sym, ap, ◌∙◌, arith}
+use Rattle.std.proofs.Common.{IsTrue, ◌&&◌, ◌≡◌, ◌≢◌, ◌↔◌, ℕ, ◌+◌, ◌-◌, ◌*◌, ◌/◌, ◌%◌, ◌^◌, ◌≤◌, ◌<◌, Bool, true, false, eqb, List, length, get_or, set, replicate, Option, Some, None, subst, bit_and, get_or-set_other, get_or-set_same, refl, sym, ap, ◌∙◌, arith}
 use Rattle.std.specs.Option.{MatchOption, is_some}
 use Rattle.std.proofs.lemmas.Bool.{ne_eqb}
 use borrow.Author.Tests.{eq-eqb}
@@ -18,7 +18,7 @@ use Rattle.paper.proofs.Bits.{clear_other, and_set}
 use Rattle.paper.proofs.Multiset.{bit_le}
 use Rattle.paper.proofs.Sums.{many_le}
 use Rattle.tables.specs.Machine.{IsByte, may_be_taken, Leaves}
-use Rattle.sheet.specs.Counting.{rules_with, predictions_of, predict_at, waiting_at, ends, ended_at, complete_at, scan_at, steps_at}
+use Rattle.sheet.specs.Counting.{completed_by, rules_with, predictions_of, predict_at, waiting_at, ends, ended_at, complete_at, scan_at, steps_at}
 use Rattle.sheet.specs.Growing.{IsListOf}
 use Rattle.tables.specs.Masks.{entry_with}
 use Rattle.tables.proofs.Masks.{finished_byte}
@@ -26,7 +26,7 @@ use Rattle.sheet.proofs.Listed.{Says}
 use Rattle.sheet.proofs.Places.{zeros}
 use Rattle.sheet.proofs.Growth.{entry_at, list_length}
 use Rattle.sheet.proofs.Tally.{below_next, below_at_most}
-use Rattle.sheet.proofs.Counting.{completed_by, list_few, list_sum, predictions_few, rules_in, rules_none, rules_one, rules_taken}
+use Rattle.sheet.proofs.Counting.{list_few, list_sum, predictions_few, rules_in, rules_none, rules_one, rules_taken}
 
 -- ---- the rules of each symbol of a set
 
@@ -131,57 +131,89 @@ unfinished grammar h o {m} p ne = go (finished (entry_with grammar h o m)) (fini
 -- ---- the finished entries by their numbers
 
 -- The counts are those of the first n entries of list j.
-pub record IsEnding (grammar : Grammar) (row : List ℕ) (j n : ℕ) (counts : List ℕ) : Type 0 where
-  pub long : length counts ≡ 4160
-  pub are : (c : ℕ) → c < 4160 → Tallied grammar row j (ended grammar c) n (get_or counts c 0)
+pub record IsEnding (grammar : Grammar) (row : List ℕ) (j i n : ℕ) (counts : List ℕ) : Type 0 where
+  pub long : length counts ≡ 64
+  pub are : (x : ℕ) → x < 64 → Tallied grammar row j (ended grammar (64 * i + x)) n (get_or counts x 0)
 
-pub ending_first : (grammar : Grammar) (row : List ℕ) (j : ℕ) → IsEnding grammar row j 0 (replicate 4160 0)
-ending_first grammar row j =
-    record { long = length-replicate {A = ℕ} 4160 0; are = λ c l. subst (Tallied grammar row j (ended grammar c) 0) (sym (zeros 4160 c)) tally_first }
+pub ending_first : (grammar : Grammar) (row : List ℕ) (j i : ℕ) → IsEnding grammar row j i 0 (replicate 64 0)
+ending_first grammar row j i =
+    record { long = length-replicate {A = ℕ} 64 0; are = λ x l. subst (Tallied grammar row j (ended grammar (64 * i + x)) 0) (sym (zeros 64 x)) tally_first }
 
 module _ {image row : List ℕ} (fit : IsFit image row) {j n h o m : ℕ} (among : j ≤ length row) (says : Says image row j n h o m) where
-  pub number_small : (i x : ℕ) → i ≡ o → x ≡ left (grammar_of image) h → 64 * i + x < 4160
-  number_small i x e f =
+  pub symbol_small : left (grammar_of image) h < 64
+  symbol_small =
       let is = fit.is_grammar.left_is h says.is_rule in
-      omega (arith, is.below, fit.is_grammar.few_symbols, says.origin_le, fit.short)
+      omega (arith, is.below, fit.is_grammar.few_symbols)
 
-  module _ {counts : List ℕ} (v : IsEnding (grammar_of image) row j n counts) where
-    -- a finished entry
-    pub ending_more : (a : ℕ) → m ≡ 0 → a < 4160 → a ≡ 64 * o + left (grammar_of image) h → IsEnding (grammar_of image) row j (n + 1) (set counts a (get_or counts a 0 + 1))
+  module _ {i : ℕ} {counts : List ℕ} (v : IsEnding (grammar_of image) row j i n counts) where
+    -- a finished entry of origin i
+    pub ending_more : (a : ℕ) → m ≡ 0 → o ≡ i → a ≡ left (grammar_of image) h → IsEnding (grammar_of image) row j i (n + 1) (set counts a (get_or counts a 0 + 1))
     unfolding ends
-    ending_more a z small e = record { long = length-set counts a (get_or counts a 0 + 1) ∙ v.long; are = λ c l. go c l (ℕ_discrete c a) }
+    ending_more a z f e = record { long = length-set counts a (get_or counts a 0 + 1) ∙ v.long; are = λ c l. go c l (ℕ_discrete c a) }
       where
+        small : a < 64
+        small = omega (arith, symbol_small)
+
         done : finished (entry_with (grammar_of image) h o m) ≡ true
         done = (finished_byte (grammar_of image) h o says.byte).1 z
 
-        this : eqb (64 * o + left (grammar_of image) h) a ≡ true
-        this = eq-eqb (64 * o + left (grammar_of image) h) a (sym e)
+        this : eqb (64 * o + left (grammar_of image) h) (64 * i + a) ≡ true
+        this = eq-eqb (64 * o + left (grammar_of image) h) (64 * i + a) (omega arith)
 
-        here : Tallied (grammar_of image) row j (ended (grammar_of image) a) (n + 1) (get_or (set counts a (get_or counts a 0 + 1)) a 0)
+        here : Tallied (grammar_of image) row j (ended (grammar_of image) (64 * i + a)) (n + 1) (get_or (set counts a (get_or counts a 0 + 1)) a 0)
         here =
-            subst (Tallied (grammar_of image) row j (ended (grammar_of image) a) (n + 1)) (sym (get_or-set_same counts a (get_or counts a 0 + 1) 0 (omega (arith, v.long))))
+            subst (Tallied (grammar_of image) row j (ended (grammar_of image) (64 * i + a)) (n + 1)) (sym (get_or-set_same counts a (get_or counts a 0 + 1) 0 (omega (arith, v.long, small))))
             (tally_more says (v.are a small) 1 (rw (done, this) refl))
 
-        go : (c : ℕ) → c < 4160 → Dec (c ≡ a) → Tallied (grammar_of image) row j (ended (grammar_of image) c) (n + 1) (get_or (set counts a (get_or counts a 0 + 1)) c 0)
-        go c l (yes f) = subst (λ c. Tallied (grammar_of image) row j (ended (grammar_of image) c) (n + 1) (get_or (set counts a (get_or counts a 0 + 1)) c 0)) (sym f) here
+        go : (c : ℕ) → c < 64 → Dec (c ≡ a) → Tallied (grammar_of image) row j (ended (grammar_of image) (64 * i + c)) (n + 1) (get_or (set counts a (get_or counts a 0 + 1)) c 0)
+        go c l (yes g) = subst (λ c. Tallied (grammar_of image) row j (ended (grammar_of image) (64 * i + c)) (n + 1) (get_or (set counts a (get_or counts a 0 + 1)) c 0)) (sym g) here
         go c l (no ne) =
-            let other : eqb (64 * o + left (grammar_of image) h) c ≡ false = ne_eqb (64 * o + left (grammar_of image) h) c (λ f. ne (sym (e ∙ f))) in
-            subst (Tallied (grammar_of image) row j (ended (grammar_of image) c) (n + 1)) (sym (get_or-set_other counts a c (get_or counts a 0 + 1) 0 ne))
+            let other : eqb (64 * o + left (grammar_of image) h) (64 * i + c) ≡ false = ne_eqb (64 * o + left (grammar_of image) h) (64 * i + c) (λ g. ne (omega arith)) in
+            subst (Tallied (grammar_of image) row j (ended (grammar_of image) (64 * i + c)) (n + 1)) (sym (get_or-set_other counts a c (get_or counts a 0 + 1) 0 ne))
             (tally_none says (v.are c l) (rw (done, other) refl))
 
     -- one that is not finished
-    pub ending_past : m ≢ 0 → IsEnding (grammar_of image) row j (n + 1) counts
+    pub ending_past : m ≢ 0 → IsEnding (grammar_of image) row j i (n + 1) counts
     unfolding ends
     ending_past ne = record { long = v.long; are = λ c l. tally_none says (v.are c l) (rw (unfinished (grammar_of image) h o says.byte ne) refl) }
 
-pub ending_few : {image row cells : List ℕ} {j n : ℕ} {counts : List ℕ} → IsFit image row → IsListOf (grammar_of image) row j cells → n ≤ length cells → IsEnding (grammar_of image) row j n counts
-    → (c : ℕ) → c < 4160 → get_or counts c 0 < 67108864
-ending_few {image} {row} {j = j} fit is k v c l = omega (arith, tally_few (v.are c l) 1 (λ e. bit_le (ends (grammar_of image) c e)), list_few fit j, list_length is)
+    -- one of another origin
+    pub ending_other : o ≢ i → IsEnding (grammar_of image) row j i (n + 1) counts
+    unfolding ends
+    ending_other ne = record { long = v.long; are = λ c l. tally_none says (v.are c l) (other c l) }
+      where
+        both : (b : Bool) {t : Bool} → t ≡ false → bit (b && t) ≡ 0
+        both true e = rw e refl
+        both false e = refl
 
-pub ending_last : {grammar : Grammar} {row cells : List ℕ} {j n : ℕ} {counts : List ℕ} → IsListOf grammar row j cells → n ≡ length cells → IsEnding grammar row j n counts
-    → (c : ℕ) → c < 4160 → get_or counts c 0 ≡ ended_at grammar row j c
+        other : (c : ℕ) → c < 64 → ended (grammar_of image) (64 * i + c) (entry_with (grammar_of image) h o m) ≡ 0
+        other c l =
+            let unlike : eqb (64 * o + left (grammar_of image) h) (64 * i + c) ≡ false = ne_eqb (64 * o + left (grammar_of image) h) (64 * i + c) (λ g. ne (omega (arith, symbol_small))) in
+            both (finished (entry_with (grammar_of image) h o m)) unlike
+
+    -- one that is not both
+    pub ending_not : ((m ≡ 0) × (o ≡ i) → ⊥) → IsEnding (grammar_of image) row j i (n + 1) counts
+    ending_not ne = go (ℕ_discrete m 0)
+      where
+        go : Dec (m ≡ 0) → IsEnding (grammar_of image) row j i (n + 1) counts
+        go (yes z) = ending_other (λ f. ne (z, f))
+        go (no z) = ending_past z
+
+-- what a test tells
+pub test_true : {b : Bool} {P : Type 0} → IsTrue b ↔ P → b ≡ true → P
+test_true t e = t.0 e
+
+pub test_false : {b : Bool} {P : Type 0} → IsTrue b ↔ P → b ≡ false → P → ⊥
+test_false t e p = let q = t.1 p in cc
+
+pub ending_few : {image row cells : List ℕ} {j i n : ℕ} {counts : List ℕ} → IsFit image row → IsListOf (grammar_of image) row j cells → n ≤ length cells → IsEnding (grammar_of image) row j i n counts
+    → (x : ℕ) → x < 64 → get_or counts x 0 < 67108864
+ending_few {image} {row} {j = j} {i = i} fit is k v x l = omega (arith, tally_few (v.are x l) 1 (λ e. bit_le (ends (grammar_of image) (64 * i + x) e)), list_few fit j, list_length is)
+
+pub ending_last : {grammar : Grammar} {row cells : List ℕ} {j i n : ℕ} {counts : List ℕ} → IsListOf grammar row j cells → n ≡ length cells → IsEnding grammar row j i n counts
+    → (x : ℕ) → x < 64 → get_or counts x 0 ≡ ended_at grammar row j (64 * i + x)
 unfolding ended_at
-ending_last is e v c l = tally_last is e (v.are c l)
+ending_last is e v x l = tally_last is e (v.are x l)
 
 -- ---- the tops
 
@@ -216,16 +248,25 @@ pub completed_none : (grammar : Grammar) (row : List ℕ) (j : ℕ) → 0 ≡ su
 unfolding sum_below
 completed_none grammar row j = refl
 
-pub completed_more : (grammar : Grammar) (row : List ℕ) (j c : ℕ) {s a w : ℕ} → s ≡ sum_below c (completed_by grammar row j) → a ≡ ended_at grammar row j c
-    → w ≡ waiting_at grammar row (c / 64) (c % 64) → s + a * w ≡ sum_below (c + 1) (completed_by grammar row j)
-completed_more grammar row j c d e f = let t = below_next c (completed_by grammar row j) in cc
+pub completed_more : (grammar : Grammar) (row : List ℕ) (j i x s : ℕ) {a w : ℕ} → x < 64
+    → sum_below (64 * i) (completed_by grammar row j) + s ≡ sum_below (64 * i + x) (completed_by grammar row j)
+    → a ≡ ended_at grammar row j (64 * i + x) → w ≡ waiting_at grammar row i x
+    → sum_below (64 * i) (completed_by grammar row j) + (s + a * w) ≡ sum_below (64 * i + (x + 1)) (completed_by grammar row j)
+completed_more grammar row j i x s {a} {w} l d e f =
+    let place : (64 * i + x) / 64 ≡ i = omega arith in
+    let symbol : (64 * i + x) % 64 ≡ x = omega arith in
+    let here : completed_by grammar row j (64 * i + x) ≡ a * w = rw (place, symbol, e, f) in
+    let next : 64 * i + (x + 1) ≡ 64 * i + x + 1 = omega arith in
+    rw next (omega (arith, d, here, below_next (64 * i + x) (completed_by grammar row j)))
 
-pub completed_past : (grammar : Grammar) (row : List ℕ) (j c : ℕ) {s a : ℕ} → s ≡ sum_below c (completed_by grammar row j) → a ≡ ended_at grammar row j c → a ≡ 0
-    → s ≡ sum_below (c + 1) (completed_by grammar row j)
-completed_past grammar row j c d e z =
-    let w : ℕ = waiting_at grammar row (c / 64) (c % 64) in
-    let zero_is : ended_at grammar row j c * w ≡ 0 = ap (λ n. n * w) (sym e ∙ z) ∙ omega arith in
-    omega (arith, d, zero_is, below_next c (completed_by grammar row j))
+pub completed_past : (grammar : Grammar) (row : List ℕ) (j i x s : ℕ) {a : ℕ} → x < 64
+    → sum_below (64 * i) (completed_by grammar row j) + s ≡ sum_below (64 * i + x) (completed_by grammar row j)
+    → a ≡ ended_at grammar row j (64 * i + x) → a ≡ 0
+    → sum_below (64 * i) (completed_by grammar row j) + s ≡ sum_below (64 * i + (x + 1)) (completed_by grammar row j)
+completed_past grammar row j i x s {a} l d e z =
+    let nothing : a * waiting_at grammar row i x ≡ 0 = rw z (omega arith) in
+    let more = completed_more grammar row j i x s l d e refl in
+    omega (arith, more, nothing)
 
 -- ---- the steps of one list and of all
 

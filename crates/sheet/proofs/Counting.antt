@@ -25,7 +25,7 @@ use Rattle.paper.proofs.Multiset.{bit_le}
 use Rattle.paper.proofs.SheetBounds.{entries_bound_lem}
 use Rattle.paper.proofs.Sums.{sum_le, sum_at_most, sum_places, sum_map, many_le, length_keep}
 use Rattle.paper.proofs.Universe.{found_possible}
-use Rattle.sheet.specs.Counting.{rules_with, predictions_of, predict_at, waiting_at, ends, ended_at, complete_at, scan_at, steps_at}
+use Rattle.sheet.specs.Counting.{completed_by, rules_with, predictions_of, predict_at, waiting_at, ends, ended_at, complete_at, scan_at, steps_at}
 use Rattle.sheet.specs.Growing.{IsListOf}
 use Rattle.sheet.proofs.Growth.{mem_place, entry_at, list_length}
 use Rattle.sheet.proofs.Tally.{below_same, below_add, below_rises, below_at_most, below_between, sum_same, sum_add, sum_none, sum_by_number}
@@ -150,8 +150,6 @@ pub counted_few : (n : ℕ) (p : ℕ → Bool) → sum_below n (λ k. bit (p k))
 counted_few n p = omega (arith, below_at_most 1 n (λ k. bit (p k)) (λ j l. bit_le (p j)))
 
 -- how many complete steps the finished entries with this number give
-abbrev pub completed_by : Grammar → List ℕ → ℕ → ℕ → ℕ
-completed_by g row j c = ended_at g row j c * waiting_at g row (c / 64) (c % 64)
 
 module _ {image row : List ℕ} (fit : IsFit image row) where
   abbrev g : Grammar

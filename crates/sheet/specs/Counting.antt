@@ -1,6 +1,6 @@
 -- What is counted over one list of the sheet.
 -- Assumes nothing.
-use Rattle.std.specs.Prelude.{Bool, ◌&&◌, cond, List, ℕ, ◌+◌, ◌*◌, eqb, ltb, length, get_or}
+use Rattle.std.specs.Prelude.{◌/◌, ◌%◌, Bool, ◌&&◌, cond, List, ℕ, ◌+◌, ◌*◌, eqb, ltb, length, get_or}
 use Rattle.paper.specs.Multiset.{keep}
 use Rattle.paper.specs.Grammar.{Grammar, left}
 use Rattle.paper.specs.Entry.{Entry, may_take, finished}
@@ -30,6 +30,10 @@ ends g c f = finished f && eqb (64 * f.origin + left g f.rule) c
 -- how many such entries list j has
 unfoldable pub ended_at : Grammar → List ℕ → ℕ → ℕ → ℕ
 ended_at g row j c = many (ends g c) (list_at (sheet_of g row) j)
+
+-- the complete steps of list j with finished entries of the origin and left symbol that c stands for
+abbrev pub completed_by : Grammar → List ℕ → ℕ → ℕ → ℕ
+completed_by g row j c = ended_at g row j c * waiting_at g row (c / 64) (c % 64)
 
 -- the complete steps of list j
 unfoldable pub complete_at : Grammar → List ℕ → ℕ → ℕ

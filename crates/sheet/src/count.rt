@@ -1,12 +1,12 @@
 // What is counted over the finished sheet.
 
-ghost use Rattle.std.specs.Prelude.{ℕ, ◌≡◌, ◌<◌, ◌≤◌, length, slice_index};
+ghost use Rattle.std.specs.Prelude.{ℕ, ◌≡◌, ◌↔◌, IsTrue, ◌+◌, ◌*◌, ◌<◌, ◌≤◌, length, slice_index};
 ghost use Rattle.paper.specs.Grammar.{IsNonterminal, rule_count, members};
 ghost use Rattle.paper.specs.Image.{grammar_of};
-ghost use Rattle.paper.specs.Sheet.{rest_of, steps, tops};
+ghost use Rattle.paper.specs.Sheet.{rest_of, steps, sum_below, tops};
 ghost use Rattle.paper.specs.Building.{sheet_of};
 ghost use Rattle.tables.specs.Machine.{IsByte};
-ghost use Rattle.sheet.specs.Counting.{rules_with, predictions_of, predict_at, waiting_at, ended_at, complete_at, steps_at};
+ghost use Rattle.sheet.specs.Counting.{completed_by, rules_with, predictions_of, predict_at, waiting_at, ended_at, complete_at, steps_at};
 ghost use Rattle.sheet.specs.Growing.{IsListOf};
 ghost use Rattle.sheet.specs.Grown.{IsBuilt};
 
@@ -83,37 +83,57 @@ fn waiting(input: &Input, words: &[u32], starts: &[usize; 66], i: usize, x: Symb
     waiting
 }
 
-/// How many finished entries list j has of each origin and left symbol, at 64 times the one and the other.
-fn count_ended(input: &Input, words: &[u32], starts: &[usize; 66], j: usize) -> [u32; 4160]
+/// Whether an entry is finished and has origin i.
+fn has_ended(entry: Entry, i: usize) -> bool
+    ensures { IsTrue result ↔ ((entry.rest ≡ 0) × (entry.origin.0 ≡ i)) }
+{
+    entry.rest == 0 && usize::from(entry.origin.0) == i
+}
+
+/// How many finished entries of origin i list j has for each left symbol.
+fn count_ended(input: &Input, words: &[u32], starts: &[usize; 66], j: usize, i: usize) -> [u32; 64]
     requires built { IsBuilt input.now.grammar.now input.now.tokens.now words.now starts.now }
     requires place { j ≤ length input.now.tokens.now }
-    ensures { (c : ℕ) → c < 4160 → slice_index result c ≡ ended_at (grammar_of input.now.grammar.now) input.now.tokens.now j c }
+    ensures { (x : ℕ) → x < 64 → slice_index result x ≡ ended_at (grammar_of input.now.grammar.now) input.now.tokens.now j (64 * i + x) }
 {
     let cells = list_of(input, words, starts, j);
-    let mut ended = [0; 4160];
+    let mut ended = [0; 64];
     for cell in cells {
         let entry = Entry::of_word(*cell % KEYS);
-        if entry.rest == 0 {
+        if has_ended(entry, i) {
             let left = input.grammar.left(entry.rule);
-            ended[64 * usize::from(entry.origin.0) + usize::from(left.0)] += 1;
+            ended[usize::from(left.0)] += 1;
         }
     }
     ended
 }
 
-/// The complete steps of list j. Each list is gone through once for each symbol that is finished from its place.
+/// The complete steps of list j with finished entries of origin i. List i is gone through once for each symbol that is finished from there.
+fn completions_from(input: &Input, words: &[u32], starts: &[usize; 66], j: usize, i: usize) -> u64
+    requires built { IsBuilt input.now.grammar.now input.now.tokens.now words.now starts.now }
+    requires place { j ≤ length input.now.tokens.now }
+    requires earlier { i ≤ j }
+    ensures { sum_below (64 * i) (completed_by (grammar_of input.now.grammar.now) input.now.tokens.now j) + result ≡ sum_below (64 * (i + 1)) (completed_by (grammar_of input.now.grammar.now) input.now.tokens.now j) }
+{
+    let ended = count_ended(input, words, starts, j, i);
+    let mut steps = 0;
+    for x in 0..64 {
+        if ended[x] > 0 {
+            steps += u64::from(ended[x]) * waiting(input, words, starts, i, SymbolNo(x as u8));
+        }
+    }
+    steps
+}
+
+/// The complete steps of list j.
 fn complete_steps(input: &Input, words: &[u32], starts: &[usize; 66], j: usize) -> u64
     requires built { IsBuilt input.now.grammar.now input.now.tokens.now words.now starts.now }
     requires place { j ≤ length input.now.tokens.now }
     ensures { result ≡ complete_at (grammar_of input.now.grammar.now) input.now.tokens.now j }
 {
-    let ended = count_ended(input, words, starts, j);
     let mut steps = 0;
-    for c in 0..64 * (j + 1) {
-        if ended[c] > 0 {
-            let x = SymbolNo((c % 64) as u8);
-            steps += u64::from(ended[c]) * waiting(input, words, starts, c / 64, x);
-        }
+    for i in 0..j + 1 {
+        steps += completions_from(input, words, starts, j, i);
     }
     steps
 }

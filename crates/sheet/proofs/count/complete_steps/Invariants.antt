@@ -1,8 +1,8 @@
-use Rattle.std.proofs.Common.{◌≡◌}
+use Rattle.std.proofs.Common.{◌≡◌, ◌*◌}
 use Rattle.paper.specs.Image.{grammar_of}
 use Rattle.paper.specs.Sheet.{sum_below}
-use Rattle.sheet.proofs.Counting.{completed_by}
+use Rattle.sheet.specs.Counting.{completed_by}
 use Rattle.sheet.proofs.count.complete_steps.Given as goal
 
-abbrev pub invariant-loop-c : goal.invariant-loop-c
-invariant-loop-c l = l.steps ≡ sum_below l.c (completed_by (grammar_of l.input.grammar.now) l.input.tokens.now l.j)
+abbrev pub invariant-loop-i : goal.invariant-loop-i
+invariant-loop-i l = l.steps ≡ sum_below (64 * l.i) (completed_by (grammar_of l.input.grammar.now) l.input.tokens.now l.j)

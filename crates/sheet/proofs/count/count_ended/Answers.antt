@@ -1,11 +1,11 @@
-use Rattle.std.proofs.Common.{arith, ◌∙◌}
+use Rattle.std.proofs.Common.{arith, ◌∙◌, ◌<◌}
 use Rattle.sheet.proofs.Listed.{cell_says}
-use Rattle.sheet.proofs.Counted.{ending_first, ending_more, ending_past, ending_few, ending_last, number_small}
+use Rattle.sheet.proofs.Counted.{test_true, test_false, ending_first, ending_more, ending_not, ending_few, ending_last, symbol_small}
 use Rattle.sheet.proofs.count.count_ended.Goals as goal
-use Rattle.sheet.proofs.count.count_ended.Goals.{then-entry-eq0, else-entry-eq0}
+use Rattle.sheet.proofs.count.count_ended.Goals.{then-has_ended, else-has_ended}
 
 pub loop-cell-init : goal.loop-cell-init
-loop-cell-init c = ending_first _ _ _
+loop-cell-init c = ending_first _ _ _ _
 
 pub left-left-requires : goal.left-left-requires
 left-left-requires c =
@@ -17,34 +17,27 @@ bounds-ended-from c =
     let says =
     cell_says c.args.input.now.fits c.requires.place c.list_of-cells.ensures c.loop-cell-test.true (omega (arith, c.of_word-entry.type_inv)) (omega (arith, c.of_word-entry.type_inv))
     c.of_word-entry.ensures in
-    number_small c.args.input.now.fits c.requires.place says c.from.result c.from-then-entry-eq0.result c.from.ensures (c.from-then-entry-eq0.ensures ∙ c.left-left.ensures)
+    omega (arith, symbol_small c.args.input.now.fits c.requires.place says, c.from.ensures, c.left-left.ensures, c.loop-cell.invariant.long)
 
-pub overflow_add-ended-then-entry-eq0 : goal.overflow_add-ended-then-entry-eq0
-overflow_add-ended-then-entry-eq0 c =
+pub overflow_add-ended : goal.overflow_add-ended
+overflow_add-ended c =
     let says =
     cell_says c.args.input.now.fits c.requires.place c.list_of-cells.ensures c.loop-cell-test.true (omega (arith, c.of_word-entry.type_inv)) (omega (arith, c.of_word-entry.type_inv))
     c.of_word-entry.ensures in
-    let small = number_small c.args.input.now.fits c.requires.place says c.from.result c.from-then-entry-eq0.result c.from.ensures (c.from-then-entry-eq0.ensures ∙ c.left-left.ensures) in
+    let small : c.from.result < 64 = omega (arith, symbol_small c.args.input.now.fits c.requires.place says, c.from.ensures, c.left-left.ensures) in
     omega (arith, ending_few c.args.input.now.fits c.list_of-cells.ensures c.loop-cell.auto.cell-index-end c.loop-cell.invariant _ small)
-
-pub bounds-ended-from-then-entry-eq0 : goal.bounds-ended-from-then-entry-eq0
-bounds-ended-from-then-entry-eq0 c =
-    let says =
-    cell_says c.args.input.now.fits c.requires.place c.list_of-cells.ensures c.loop-cell-test.true (omega (arith, c.of_word-entry.type_inv)) (omega (arith, c.of_word-entry.type_inv))
-    c.of_word-entry.ensures in
-    number_small c.args.input.now.fits c.requires.place says c.from.result c.from-then-entry-eq0.result c.from.ensures (c.from-then-entry-eq0.ensures ∙ c.left-left.ensures)
 
 pub loop-cell-preserved : goal.loop-cell-preserved
 loop-cell-preserved c =
     let says =
     cell_says c.args.input.now.fits c.requires.place c.list_of-cells.ensures c.loop-cell-test.true (omega (arith, c.of_word-entry.type_inv)) (omega (arith, c.of_word-entry.type_inv))
     c.of_word-entry.ensures in
-    elim c.if-entry-eq0.branch [
-      | then-entry-eq0 w ↦
-          let small = number_small c.args.input.now.fits c.requires.place says w.from.result w.from-then-entry-eq0.result w.from.ensures (w.from-then-entry-eq0.ensures ∙ w.left-left.ensures) in
-          rw w.ended-is (ending_more c.args.input.now.fits c.requires.place says c.loop-cell.invariant _ w.if-entry-eq0.true small
-          (omega (arith, w.from.ensures, w.from-then-entry-eq0.ensures, w.left-left.ensures)))
-      | else-entry-eq0 w ↦ rw w.ended-is (ending_past c.args.input.now.fits c.requires.place says c.loop-cell.invariant w.if-entry-eq0.false)
+    elim c.if-has_ended.branch [
+      | then-has_ended w ↦
+          let ended = test_true c.has_ended.ensures w.if-has_ended.true in
+          rw w.ended-is (ending_more c.args.input.now.fits c.requires.place says c.loop-cell.invariant _ ended.0 ended.1 (w.from.ensures ∙ w.left-left.ensures))
+      | else-has_ended w ↦
+          rw w.ended-is (ending_not c.args.input.now.fits c.requires.place says c.loop-cell.invariant (test_false c.has_ended.ensures w.if-has_ended.false))
     ]
 
 pub returns : goal.returns
