@@ -12,6 +12,7 @@ pub mod Growth
 pub mod Inserting
 pub mod Learning
 pub mod Listed
+pub mod Finished
 pub mod Opening
 pub mod Places
 pub mod Predicting

@@ -24,7 +24,7 @@ use Rattle.sheet.proofs.Places.{words_append, begins, words_more, starts_at, len
 use Rattle.sheet.proofs.Growth.{entries_rise, entry_at, list_length, cell_word, entry_found}
 
 -- a sheet has as many words as entries
-length_words : (g : Grammar) (s : Sheet) → length (sheet_words g s) ≡ entries s
+pub length_words : (g : Grammar) (s : Sheet) → length (sheet_words g s) ≡ entries s
 unfolding sheet_words entries sum
 length_words g [] = refl
 length_words g (list ∷ s) = length-append (map (word g) list) (sheet_words g s) ∙ (ap (λ n. n + length (sheet_words g s)) (length-map list (word g)) ∙ ap (length list +◌) (length_words g s))
@@ -82,6 +82,10 @@ module _ {image row words starts : List ℕ} (fit : IsFit image row) (built : Is
 
   pub listed : IsListOf (grammar_of image) row i (take (get_or starts (i + 1) 0 - get_or starts i 0) (drop (get_or starts i 0) words))
   listed = subst (IsListOf (grammar_of image) row i) (sym (between_is words (get_or starts i 0) (get_or starts (i + 1) 0))) keys_listed
+
+-- the last list ends where the sheet's words end
+pub last_end : {image row words starts : List ℕ} → IsFit image row → IsBuilt image row words starts → get_or starts (length row + 1) 0 ≡ entries (sheet_of (grammar_of image) row)
+last_end {image} {row} fit built = end_is fit built (omega arith) ∙ entries_sheet (grammar_of image) row
 
 -- The cell at place k of list i says rule h, origin o and byte m.
 pub record Says (image row : List ℕ) (i k h o m : ℕ) : Type 0 where

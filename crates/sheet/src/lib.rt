@@ -4,6 +4,7 @@
 pub mod build;
 mod bytes;
 pub mod count;
+pub mod finish;
 mod grow;
 mod list;
 #[cfg(test)]

@@ -2,6 +2,7 @@
 
 use crate::build::build;
 use crate::count::{count_steps, count_tops};
+use crate::finish::finish;
 use paper::Refusal;
 use std::process::Abort;
 use tables::Grammar;
@@ -85,4 +86,24 @@ fn starts_the_lists_of_a_plate(rt: HostRuntime) {
         panic!(rt; "built");
     };
     assert_eq!(rt; refusal, Refusal::FewWords);
+}
+
+#[test]
+fn leaves_words_and_zeros(rt: HostRuntime) {
+    let Ok(grammar) = Grammar::admit(&HOUSE) else {
+        panic!(rt; "refused");
+    };
+    let Ok(input) = Input::new(&grammar, &[3, 1, 1, 0, 2]) else {
+        panic!(rt; "refused");
+    };
+    let mut words = [u32::MAX; 13];
+    let Ok(starts) = build(&input, &mut words) else {
+        panic!(rt; "too many");
+    };
+    finish(&input, &mut words, &starts);
+    let expected = [
+        0x00003, 0x10007, 0x20003, 0x20001, 0x00001, 0x10207, 0x20000, 0x10205, 0x10204, 0x00000,
+        0x10200, 0, 0,
+    ];
+    assert_eq!(rt; words.as_slice(), expected.as_slice());
 }
