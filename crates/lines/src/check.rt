@@ -16,7 +16,7 @@ fn symbol(input: &Input, lines: &[u16], k: usize) -> SymbolNo
     requires rule { line_rule lines.now k < rule_count (grammar_of input.now.grammar.now) }
     ensures { result.0 ≡ line_symbol (grammar_of input.now.grammar.now) lines.now k }
 {
-    input.grammar.left(RuleNo(rule(lines, k) as u8))
+    input.grammar.left(RuleNo(rule(lines, k)))
 }
 
 /// The symbol of the part in slot x of line k, and where it ends, if it begins at this place.
@@ -33,7 +33,7 @@ fn part_at(input: &Input, lines: &[u16], k: usize, x: usize, at: usize) -> Optio
         if at >= input.tokens.len() {
             return None;
         }
-        return Some((SymbolNo(input.tokens[at]), at + 1));
+        return Some((SymbolNo(usize::from(input.tokens[at])), at + 1));
     }
     let earlier = part - 1;
     if earlier >= k || from(lines, earlier) != at {
@@ -50,7 +50,7 @@ fn do_parts_join(input: &Input, lines: &[u16], k: usize) -> bool
     requires earlier { (i : ℕ) → i < k → LineRight (grammar_of input.now.grammar.now) input.now.tokens.now lines.now i }
     ensures { IsTrue result ↔ DoPartsJoin (grammar_of input.now.grammar.now) input.now.tokens.now lines.now k }
 {
-    let h = RuleNo(rule(lines, k) as u8);
+    let h = RuleNo(rule(lines, k));
     let mut at = from(lines, k);
     let mut rest = input.grammar.full(h);
     for x in 0..input.grammar.size(h) {
@@ -104,7 +104,7 @@ fn is_line_right(input: &Input, lines: &[u16], k: usize) -> bool
     ensures { IsTrue result ↔ LineRight (grammar_of input.now.grammar.now) input.now.tokens.now lines.now k }
 {
     if rule(lines, k) >= input.grammar.rule_count()
-        || parts(lines, k) != input.grammar.size(RuleNo(rule(lines, k) as u8))
+        || parts(lines, k) != input.grammar.size(RuleNo(rule(lines, k)))
         || from(lines, k) > to(lines, k)
         || to(lines, k) > input.tokens.len()
         || !are_slots_clear(lines, k, parts(lines, k))

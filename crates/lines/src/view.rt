@@ -27,7 +27,7 @@ pub fn view_places(
     if k >= count(lines) {
         return Err(Refusal::NoLine);
     }
-    Ok((Place(from(lines, k) as u8), Place(to(lines, k) as u8)))
+    Ok((Place(from(lines, k)), Place(to(lines, k))))
 }
 
 /// The words under line k, as that part of the row; the empty part at place 0 if it is refused.
@@ -38,7 +38,7 @@ pub fn view<'a>(image: &[u8], tokens: &'a [u8], lines: &[u16], k: usize) -> &'a 
     ensures part { (refusal : Option Refusal) → ViewOutcome image.now tokens.now lines.now k refusal result.now → result.ref_ptr ≡ bytes_on tokens.entry.ref_ptr (view_from lines.now k refusal) }
 {
     match view_places(image, tokens, lines, k) {
-        Ok((from, to)) => &tokens[usize::from(from.0)..usize::from(to.0)],
+        Ok((from, to)) => &tokens[from.0..to.0],
         Err(_) => &tokens[..0],
     }
 }

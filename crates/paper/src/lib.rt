@@ -9,15 +9,15 @@ use thiserror::Error;
 
 /// The number of a rule: Shieber's h (G2).
 #[derive(Clone, Copy, Debug, PartialEq, Eq, PartialOrd, Ord, Hash)]
-pub struct RuleNo(pub u8);
+pub struct RuleNo(pub usize);
 
 /// The number of a symbol: Shieber's A (G1).
 #[derive(Clone, Copy, Debug, PartialEq, Eq, PartialOrd, Ord, Hash)]
-pub struct SymbolNo(pub u8);
+pub struct SymbolNo(pub usize);
 
 /// A place between tokens: Shieber's i. Place 0 is before the first token (S1).
 #[derive(Clone, Copy, Debug, PartialEq, Eq, PartialOrd, Ord, Hash)]
-pub struct Place(pub u8);
+pub struct Place(pub usize);
 
 /// Why a call is refused, in the order of the tests (docs/RULES.md, "What comes back"). Each has the number that programs print and that C gets.
 #[derive(Clone, Copy, Debug, PartialEq, Eq, Hash, Error)]

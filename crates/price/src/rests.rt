@@ -37,7 +37,7 @@ pub fn count_rests(grammar: &Grammar) -> u64
     ensures few { result ≤ 96 * 256 }
 {
     let mut sum = 0;
-    for h in 0..grammar.rule_count() as u8 {
+    for h in 0..grammar.rule_count() {
         sum += count_of_rule(grammar, RuleNo(h));
     }
     sum

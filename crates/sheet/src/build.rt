@@ -40,7 +40,7 @@ fn grow(input: &Input, words: &mut [u32], lists: &mut Lists) -> Result<(), Refus
 {
     let j = lists.place;
     if j > 0 {
-        let token = SymbolNo(input.tokens[usize::from(j) - 1]);
+        let token = SymbolNo(usize::from(input.tokens[usize::from(j) - 1]));
         advance(input, words, lists, j - 1, token, 0)?;
     }
     for i in (0..j).rev() {

@@ -45,7 +45,7 @@ fn predictions(input: &Input, entry: Entry) -> u64
     let mut steps = 0;
     while symbols != 0 {
         let x = symbols.trailing_zeros();
-        steps += rules_of(input, SymbolNo(x as u8));
+        steps += rules_of(input, SymbolNo(x as usize));
         symbols -= 1 << x;
     }
     steps
@@ -87,7 +87,7 @@ fn waiting(input: &Input, words: &[u32], starts: &[usize; 66], i: usize, x: Symb
 fn has_ended(entry: Entry, i: usize) -> bool
     ensures { IsTrue result ↔ ((entry.rest ≡ 0) × (entry.origin.0 ≡ i)) }
 {
-    entry.rest == 0 && usize::from(entry.origin.0) == i
+    entry.rest == 0 && entry.origin.0 == i
 }
 
 /// How many finished entries of origin i list j has for each left symbol.
@@ -102,7 +102,7 @@ fn count_ended(input: &Input, words: &[u32], starts: &[usize; 66], j: usize, i: 
         let entry = Entry::of_word(*cell % KEYS);
         if has_ended(entry, i) {
             let left = input.grammar.left(entry.rule);
-            ended[usize::from(left.0)] += 1;
+            ended[left.0] += 1;
         }
     }
     ended
@@ -119,7 +119,7 @@ fn completions_from(input: &Input, words: &[u32], starts: &[usize; 66], j: usize
     let mut steps = 0;
     for x in 0..64 {
         if ended[x] > 0 {
-            steps += u64::from(ended[x]) * waiting(input, words, starts, i, SymbolNo(x as u8));
+            steps += u64::from(ended[x]) * waiting(input, words, starts, i, SymbolNo(x));
         }
     }
     steps
@@ -148,7 +148,8 @@ fn list_steps(input: &Input, words: &[u32], starts: &[usize; 66], j: usize) -> u
     if j == input.tokens.len() {
         return steps;
     }
-    steps + waiting(input, words, starts, j, SymbolNo(input.tokens[j]))
+    let token = SymbolNo(usize::from(input.tokens[j]));
+    steps + waiting(input, words, starts, j, token)
 }
 
 /// The steps, counted over the finished sheet.

@@ -50,8 +50,8 @@ fn learn(input: &Input, lists: &mut Lists, entry: Entry) -> u64
     let grammar = input.grammar;
     let symbols = grammar.takeable(entry.rule, entry.rest);
     lists.want |= symbols & grammar.nonterminal_set();
-    if entry.rest == 0 && entry.origin.0 < lists.place {
-        lists.found[usize::from(entry.origin.0)] |= 1 << grammar.left(entry.rule).0;
+    if entry.rest == 0 && entry.origin.0 < usize::from(lists.place) {
+        lists.found[entry.origin.0] |= 1 << grammar.left(entry.rule).0;
     }
     symbols & grammar.empty_set()
 }
@@ -66,7 +66,7 @@ fn take_each(input: &Input, entry: Entry, symbols: u64, bytes: &mut ByteSet)
     let mut untaken = symbols;
     while untaken != 0 {
         let x = untaken.trailing_zeros();
-        if let Some(rest) = grammar.take(entry.rule, entry.rest, SymbolNo(x as u8)) {
+        if let Some(rest) = grammar.take(entry.rule, entry.rest, SymbolNo(x as usize)) {
             bytes.add(rest);
         }
         untaken -= 1 << x;
@@ -80,13 +80,13 @@ fn stage_of(input: &Input, place: u8, entry: Entry, stage: u32) -> u32
     ensures stage { result ≡ stage_at (grammar_of input.now.grammar.now) input.now.ranks.now place entry.rule.0 entry.origin.0 entry.rest stage }
     ensures small { result < 64 }
 {
-    if entry.origin.0 != place {
+    if entry.origin.0 != usize::from(place) {
         return stage;
     }
     let mut highest = 0;
     let mut rest = entry.rest;
     for k in 0..input.grammar.size(entry.rule) {
-        let rank = input.ranks[usize::from(input.grammar.member(entry.rule, k).0)];
+        let rank = input.ranks[input.grammar.member(entry.rule, k).0];
         if rest % 2 == 0 && highest < rank {
             highest = rank;
         }
@@ -119,7 +119,11 @@ pub fn insert(
 {
     let mut pending = ByteSet::of(entry.rest);
     while let Some(rest) = pending.take_greatest() {
-        let part = Entry { rest, ..entry };
+        let part = Entry {
+            rule: entry.rule,
+            origin: entry.origin,
+            rest,
+        };
         let base = lists.starts[usize::from(lists.place)];
         let stage = stage_of(input, lists.place, part, stage);
         if place(words, base, lists.end, part.word() + stage * KEYS)? {
@@ -158,8 +162,13 @@ pub fn advance(
     for at in lists.starts[from]..lists.starts[from + 1] {
         let entry = Entry::of_word(words[at] % KEYS);
         if let Some(rest) = input.grammar.take(entry.rule, entry.rest, x) {
-            let stage = if entry.origin.0 == i { stage } else { 0 };
-            insert(input, words, lists, Entry { rest, ..entry }, stage)?;
+            let stage = if entry.origin.0 == from { stage } else { 0 };
+            let left = Entry {
+                rule: entry.rule,
+                origin: entry.origin,
+                rest,
+            };
+            insert(input, words, lists, left, stage)?;
         }
     }
     Ok(())
@@ -175,7 +184,7 @@ fn next_symbol(set: u64, done: u64) -> Option<SymbolNo>
     if left == 0 {
         return None;
     }
-    Some(SymbolNo(left.trailing_zeros() as u8))
+    Some(SymbolNo(left.trailing_zeros() as usize))
 }
 
 /// Takes each symbol that is finished from origin i from the entries of list i, once.
@@ -219,10 +228,10 @@ fn predict_symbol(
     ensures few { IfErr result (λ why. (why ≡ Refusal.FewWords) × IsTooMany input.now.grammar.now input.now.tokens.now (length words.old)) }
 {
     for h in input.grammar.first(x)..input.grammar.first(SymbolNo(x.0 + 1)) {
-        let rule = RuleNo(h as u8);
+        let rule = RuleNo(h);
         let entry = Entry {
             rule,
-            origin: Place(lists.place),
+            origin: Place(usize::from(lists.place)),
             rest: input.grammar.full(rule),
         };
         insert(input, words, lists, entry, 0)?;

@@ -10,6 +10,8 @@ pub struct Entry {
     pub rule: RuleNo,
     pub origin: Place,
     pub rest: u8,
+    ghost rule_fits: { rule.0 < 256 },
+    ghost origin_fits: { origin.0 < 256 },
 }
 
 // No `From`: not every word is an entry's.
@@ -18,7 +20,7 @@ impl Entry {
     pub fn word(self) -> u32
         ensures { result ≡ self.rule.0 * 65536 + self.origin.0 * 256 + self.rest }
     {
-        u32::from(self.rule.0) * 65536 + u32::from(self.origin.0) * 256 + u32::from(self.rest)
+        self.rule.0 as u32 * 65536 + self.origin.0 as u32 * 256 + u32::from(self.rest)
     }
 
     /// The entry that a word is.
@@ -27,8 +29,8 @@ impl Entry {
         ensures { word ≡ result.rule.0 * 65536 + result.origin.0 * 256 + result.rest }
     {
         Entry {
-            rule: RuleNo((word / 65536) as u8),
-            origin: Place((word / 256 % 256) as u8),
+            rule: RuleNo((word / 65536) as usize),
+            origin: Place((word / 256 % 256) as usize),
             rest: (word % 256) as u8,
         }
     }

@@ -82,8 +82,8 @@ module _ {g : Grammar} (is : IsGrammar g) (rows : List Row) (size : length rows 
   -- ## The firsts
   pub tabled_is : {wide : List Row} {firsts : List ℕ} {count : ℕ} → count ≡ rule_count g → ((h : ℕ) → h < rule_count g → IsRowOf g h (row_at wide h))
       → ((a : ℕ) → a ≤ 64 → get_or firsts a 0 ≤ length rows)
-      → ((a h : ℕ) → a ≤ 64 → h < get_or firsts a 0 → (row_at rows h).left.0 < a)
-      → ((a h : ℕ) → a ≤ 64 → get_or firsts a 0 ≤ h → h < length rows → a ≤ (row_at rows h).left.0)
+      → ((a h : ℕ) → a ≤ 64 → h < get_or firsts a 0 → (row_at rows h).left < a)
+      → ((a h : ℕ) → a ≤ 64 → get_or firsts a 0 ≤ h → h < length rows → a ≤ (row_at rows h).left)
       → Tabled g count wide firsts
   tabled_is {wide} {firsts} {count} e wide_are few before from = record {
     count_is = e;

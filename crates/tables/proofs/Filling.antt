@@ -27,7 +27,7 @@ bars_same g h a k x (b ∷ s) same =
     ∙ ap (λ n. bit (h.precedes b a || (ltb x k && eqb b a)) + 2 * n) (bars_same g h a k (suc x) s (λ j l. same (suc j) (omega arith)))
 
 -- the row of the record at the front of these bytes
-pub row_filled : (later r : List ℕ) (row : Row) → IsRecord r → row.left.0 ≡ byte r 0 → row.size ≡ byte r 1
+pub row_filled : (later r : List ℕ) (row : Row) → IsRecord r → row.left ≡ byte r 0 → row.size ≡ byte r 1
     → (s : List ℕ) → s ≡ (rule_of r).members
     → ((k : ℕ) → k < length s → member_of row k ≡ get_or s k 0)
     → ((k : ℕ) → k < length s → get_or row.bars k 0 ≡ bars_of (alone later (record { left = 0; members = s })) s k)
@@ -58,8 +58,8 @@ pub one_row : {later rules : List ℕ} {h : ℕ} {rows : List Row} (row : Row) �
 one_row {later} {rules} {h} {rows} row f few is = record { size = length-set rows h row ∙ f.size; filled = λ i l. go i l (ℕ_discrete i h) }
   where
     go : (i : ℕ) → i < h + 1 → Dec (i ≡ h) → IsRowOf (alone later (rule_of (record_at i (drop 1 rules)))) 0 (row_at (set rows h row) i)
-    go i l (yes e) = rw (e, get_or-set_same rows h row (record { left = record { 0 = 0 }; size = 0; members = []; bars = [] }) (omega (arith, f.size))) is
-    go i l (no ne) = rw (get_or-set_other rows h i row (record { left = record { 0 = 0 }; size = 0; members = []; bars = [] }) ne) (f.filled i (omega arith))
+    go i l (yes e) = rw (e, get_or-set_same rows h row (record { left = 0; size = 0; members = []; bars = [] }) (omega (arith, f.size))) is
+    go i l (no ne) = rw (get_or-set_other rows h i row (record { left = 0; size = 0; members = []; bars = [] }) ne) (f.filled i (omega arith))
 
 -- the records go on
 pub next_records : (rules records : List ℕ) (h n : ℕ) → records ≡ record_at h (drop 1 rules) → n ≡ byte records 1
@@ -170,4 +170,4 @@ module _ (b : List ℕ) (sound : image_fault b ≡ None) where
   -- the first `count` rows tell the rules as all do
   pub front_rows : (rows : List Row) (count : ℕ) → count ≡ byte (body b 1) 0 → ((h : ℕ) → h < rule_count (grammar_of b) → IsRowOf (grammar_of b) h (row_at rows h))
       → (h : ℕ) → h < rule_count (grammar_of b) → IsRowOf (grammar_of b) h (row_at (take count rows) h)
-  front_rows rows count e are h l = rw (get_or-take count rows h (record { left = record { 0 = 0 }; size = 0; members = []; bars = [] }) (omega (arith, image_count b))) (are h l)
+  front_rows rows count e are h l = rw (get_or-take count rows h (record { left = 0; size = 0; members = []; bars = [] }) (omega (arith, image_count b))) (are h l)

@@ -10,28 +10,28 @@ use Rattle.tables.specs.Table.{row_at}
 -- `first` is the number of the first rule whose left symbol is a or later
 pub record IsFirst (rows : List Row) (a first : ℕ) : Type 0 where
   pub few : first ≤ length rows
-  pub before : (h : ℕ) → h < first → (row_at rows h).left.0 < a
-  pub from : (h : ℕ) → first ≤ h → h < length rows → a ≤ (row_at rows h).left.0
+  pub before : (h : ℕ) → h < first → (row_at rows h).left < a
+  pub from : (h : ℕ) → first ≤ h → h < length rows → a ≤ (row_at rows h).left
 
 -- the firsts of the symbols below a are found, and no rule before `first` has a left symbol from a on
 pub record FirstsTo (rows : List Row) (firsts : List ℕ) (a first : ℕ) : Type 0 where
   pub size : length firsts ≡ 65
   pub few : first ≤ length rows
-  pub before : (h : ℕ) → h < first → (row_at rows h).left.0 < a
+  pub before : (h : ℕ) → h < first → (row_at rows h).left < a
   pub found : (b : ℕ) → b < a → IsFirst rows b (get_or firsts b 0)
 
 module _ {rows : List Row} (up : LeftsAscend rows) where
-  pub first_is : {a first : ℕ} → first ≤ length rows → ((h : ℕ) → h < first → (row_at rows h).left.0 < a)
-      → (first < length rows → a ≤ (row_at rows first).left.0) → IsFirst rows a first
+  pub first_is : {a first : ℕ} → first ≤ length rows → ((h : ℕ) → h < first → (row_at rows h).left < a)
+      → (first < length rows → a ≤ (row_at rows first).left) → IsFirst rows a first
   first_is {a} {first} few before there = record { few = few; before = before; from = λ h l m. go h l m (ℕ_discrete h first) }
     where
-      go : (h : ℕ) → first ≤ h → h < length rows → Dec (h ≡ first) → a ≤ (row_at rows h).left.0
+      go : (h : ℕ) → first ≤ h → h < length rows → Dec (h ≡ first) → a ≤ (row_at rows h).left
       go h l m (yes e) = rw e (there (omega arith))
       go h l m (no ne) = omega (arith, there (omega arith), up.ascend first h (omega arith) m)
 
   pub firsts_more : {firsts : List ℕ} {a first next : ℕ} → FirstsTo rows firsts a first → a < 65 → next ≤ length rows
-      → ((h : ℕ) → first ≤ h → h < next → (row_at rows h).left.0 < a)
-      → (next < length rows → a ≤ (row_at rows next).left.0) → FirstsTo rows (set firsts a next) (a + 1) next
+      → ((h : ℕ) → first ≤ h → h < next → (row_at rows h).left < a)
+      → (next < length rows → a ≤ (row_at rows next).left) → FirstsTo rows (set firsts a next) (a + 1) next
   firsts_more {firsts} {a} {first} {next} f low few between there = record {
     size = length-set firsts a next ∙ f.size;
     few = few;
@@ -39,10 +39,10 @@ module _ {rows : List Row} (up : LeftsAscend rows) where
     found = λ b l. go b l (ℕ_discrete b a);
   }
     where
-      under : (h : ℕ) → h < next → (row_at rows h).left.0 < a
+      under : (h : ℕ) → h < next → (row_at rows h).left < a
       under h l = pick h l (cases_lt h first)
         where
-          pick : (h : ℕ) → h < next → (h < first) ⊎ (first ≤ h) → (row_at rows h).left.0 < a
+          pick : (h : ℕ) → h < next → (h < first) ⊎ (first ≤ h) → (row_at rows h).left < a
           pick h l (inl m) = f.before h m
           pick h l (inr m) = between h m l
 

@@ -94,7 +94,7 @@ none_given rows = record {
 
 module _ {rows : List Row} {ranks : List ℕ} {given : ℕ} (small : AreSmall rows) (h : AreGiven rows ranks given) (i : ℕ) (l : i < length rows) where
   abbrev left : ℕ
-  left = (row_at rows i).left.0
+  left = (row_at rows i).left
 
   left_here : left < length ranks
   left_here = omega (arith, h.size, (small i l).left)
@@ -116,7 +116,7 @@ module _ {rows : List Row} {ranks : List ℕ} {given : ℕ} (small : AreSmall ro
       now = record { ranked = λ k m. (all k m, omega (arith, h.low (member_of (row_at rows i) k))) }
 
       because : (a : ℕ) → Dec (a ≡ left) → 1 ≤ rank (set ranks left (given + 1)) a
-          → (j : ℕ) × (j < length rows) × ((row_at rows j).left.0 ≡ a) × MembersRanked (row_at rows j) (set ranks left (given + 1)) (rank (set ranks left (given + 1)) a)
+          → (j : ℕ) × (j < length rows) × ((row_at rows j).left ≡ a) × MembersRanked (row_at rows j) (set ranks left (given + 1)) (rank (set ranks left (given + 1)) a)
       because a (yes e) m =
           let r : rank (set ranks left (given + 1)) a ≡ given + 1 = ap (rank (set ranks left (given + 1))) e ∙ rank_here ranks left (given + 1) left_here none (omega arith) in
           (i, l, sym e, rw r (members_keep ranks left (given + 1) left_here none (omega arith) now))

@@ -82,6 +82,6 @@ module _ (g : Grammar) (ranks : List ℕ) where
       found a l some (inl (h, m, w)) = (h, m, w.0, w.1)
       found a l some (inr none) = absurd (not_there t (λ r. let (h, m, e, w) = r.because a l some in none h m (e, w)))
 
-      not_none : (h : ℕ) → h < rule_count g → Emptied g ranks h 64 → (rank ranks (left g h) < 1) ⊎ (1 ≤ rank ranks (left g h)) → 1 ≤ rank ranks (left g h)
+      not_none : (h : ℕ) → h < rule_count g → Emptied g ranks h 65 → (rank ranks (left g h) < 1) ⊎ (1 ≤ rank ranks (left g h)) → 1 ≤ rank ranks (left g h)
       not_none h l w (inl m) = absurd (not_there t (λ r. let z = r.closed h l w in omega arith))
       not_none h l w (inr m) = m

@@ -21,11 +21,11 @@ alone later rule =
 
 -- member k of a row
 abbrev pub member_of : Row → ℕ → ℕ
-member_of row k = (get_or row.members k (record { 0 = 0 })).0
+member_of row k = get_or row.members k 0
 
 -- Each member of the row is a symbol below 64, and there are at most 8; so is its left symbol.
 pub record IsSmall (row : Row) : Type 0 where
-  pub left : row.left.0 < 64
+  pub left : row.left < 64
   pub few : row.size ≤ 8
   pub below : (k : ℕ) → k < row.size → member_of row k < 64
 
@@ -34,12 +34,12 @@ AreSmall rows = (h : ℕ) → h < length rows → IsSmall (row_at rows h)
 
 -- the left symbols ascend, equals allowed
 pub record LeftsAscend (rows : List Row) : Type 0 where
-  pub ascend : (h k : ℕ) → h < k → k < length rows → (row_at rows h).left.0 ≤ (row_at rows k).left.0
+  pub ascend : (h k : ℕ) → h < k → k < length rows → (row_at rows h).left ≤ (row_at rows k).left
 
 -- the left symbols are among the n symbols from t on
 pub record LeftsWithin (t n : ℕ) (rows : List Row) : Type 0 where
-  pub above : (h : ℕ) → h < length rows → t ≤ (row_at rows h).left.0
-  pub below : (h : ℕ) → h < length rows → (row_at rows h).left.0 < t + n
+  pub above : (h : ℕ) → h < length rows → t ≤ (row_at rows h).left
+  pub below : (h : ℕ) → h < length rows → (row_at rows h).left < t + n
 
 -- all members of the row have a rank below r, and not 0
 pub record MembersRanked (row : Row) (ranks : List ℕ) (r : ℕ) : Type 0 where
@@ -54,9 +54,9 @@ many_ranked ranks t (suc n) = bit (ltb 0 (rank ranks (t + n))) + many_ranked ran
 pub record AreGiven (rows : List Row) (ranks : List ℕ) (given : ℕ) : Type 0 where
   pub size : length ranks ≡ 64
   pub low : (a : ℕ) → rank ranks a ≤ given
-  pub because : (a : ℕ) → 1 ≤ rank ranks a → (h : ℕ) × (h < length rows) × ((row_at rows h).left.0 ≡ a) × MembersRanked (row_at rows h) ranks (rank ranks a)
+  pub because : (a : ℕ) → 1 ≤ rank ranks a → (h : ℕ) × (h < length rows) × ((row_at rows h).left ≡ a) × MembersRanked (row_at rows h) ranks (rank ranks a)
   pub counted : (t n : ℕ) → LeftsWithin t n rows → many_ranked ranks t n ≡ given
 
 -- a row all of whose members have a rank has a left symbol with one
 abbrev pub IsClosed : List Row → List ℕ → ℕ → Type 0
-IsClosed rows ranks h = MembersRanked (row_at rows h) ranks 256 → 1 ≤ rank ranks (row_at rows h).left.0
+IsClosed rows ranks h = MembersRanked (row_at rows h) ranks 256 → 1 ≤ rank ranks (row_at rows h).left

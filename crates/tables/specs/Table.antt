@@ -18,13 +18,13 @@ bars_of g s k = bar_bits g (get_or s k 0) k 0 s
 
 -- row h of the rows; past the last there is none, and a row of zeros stands for it
 abbrev pub row_at : List Row → ℕ → Row
-row_at rows h = get_or rows h (record { left = record { 0 = 0 }; size = 0; members = []; bars = [] })
+row_at rows h = get_or rows h (record { left = 0; size = 0; members = []; bars = [] })
 
 -- Row h says what rule h is.
 pub record IsRowOf (g : Grammar) (h : ℕ) (row : Row) : Type 0 where
-  pub left_is : row.left.0 ≡ left g h
+  pub left_is : row.left ≡ left g h
   pub size_is : row.size ≡ length (members g h)
-  pub member_is : (k : ℕ) → k < length (members g h) → (get_or row.members k (record { 0 = 0 })).0 ≡ get_or (members g h) k 0
+  pub member_is : (k : ℕ) → k < length (members g h) → get_or row.members k 0 ≡ get_or (members g h) k 0
   pub bars_are : (k : ℕ) → k < length (members g h) → get_or row.bars k 0 ≡ bars_of g (members g h) k
 
 -- The rows are those of the grammar's rules, and the firsts tell where each symbol's rules begin.
@@ -45,8 +45,8 @@ pub record Emptied (g : Grammar) (ranks : List ℕ) (h r : ℕ) : Type 0 where
   pub ranked : (k : ℕ) → k < length (members g h) → (1 ≤ rank ranks (get_or (members g h) k 0)) × (rank ranks (get_or (members g h) k 0) < r)
 
 -- A symbol has a rank, and not 0, exactly if it derives the empty row: one of its rules has only members of lower rank.
--- No rank is above N, which is 63 at the most, so `Emptied g ranks h 64` asks for members of any rank but 0.
+-- No rank is above N, which is below 65, so `Emptied g ranks h 65` asks for members of any rank but 0.
 pub record Ranked (g : Grammar) (ranks : List ℕ) : Type 0 where
   pub low : (a : ℕ) → a < symbols g → rank ranks a ≤ g.nonterminals
   pub because : (a : ℕ) → a < symbols g → 1 ≤ rank ranks a → (h : ℕ) × (h < rule_count g) × (left g h ≡ a) × Emptied g ranks h (rank ranks a)
-  pub closed : (h : ℕ) → h < rule_count g → Emptied g ranks h 64 → 1 ≤ rank ranks (left g h)
+  pub closed : (h : ℕ) → h < rule_count g → Emptied g ranks h 65 → 1 ≤ rank ranks (left g h)

@@ -45,14 +45,14 @@ fn fill_bars(members: &[u8], later: &[u64; 64]) -> [u8; 8]
     bars
 }
 
-/// The members as symbols.
-fn symbols_of(members: &[u8]) -> [SymbolNo; 8]
+/// The members, in the fixed place that a row has for them.
+fn symbols_of(members: &[u8]) -> [u8; 8]
     requires { length members.now ≤ 8 }
-    ensures { (k : ℕ) → k < length members.now → (get_or result k (record { 0 = 0 })).0 ≡ slice_index members.now k }
+    ensures { (k : ℕ) → k < length members.now → slice_index result k ≡ slice_index members.now k }
 {
-    let mut symbols = [SymbolNo(0); 8];
+    let mut symbols = [0; 8];
     for (k, member) in members.iter().enumerate() {
-        symbols[k] = SymbolNo(*member);
+        symbols[k] = *member;
     }
     symbols
 }
@@ -65,7 +65,7 @@ fn row_of(bytes: &[u8], later: &[u64; 64]) -> Row
 {
     let members = &bytes[2..2 + usize::from(bytes[1])];
     Row {
-        left: SymbolNo(bytes[0]),
+        left: bytes[0],
         size: bytes[1],
         members: symbols_of(members),
         bars: fill_bars(members, later),
@@ -81,9 +81,9 @@ fn fill_rows(rules: &[u8], later: &[u64; 64]) -> [Row; 96]
     ensures filled { (h : ℕ) → h < byte rules.now 0 → IsRowOf (alone later.now (rule_of (record_at h (drop 1 rules.now)))) 0 (row_at result h) }
 {
     let mut rows = [Row {
-        left: SymbolNo(0),
+        left: 0,
         size: 0,
-        members: [SymbolNo(0); 8],
+        members: [0; 8],
         bars: [0; 8],
     }; 96];
     let mut records = &rules[1..];
@@ -112,11 +112,11 @@ fn first_from(rows: &[Row], h: usize, a: u8) -> usize
     requires { h ≤ length rows.now }
     ensures from { h ≤ result }
     ensures few { result ≤ length rows.now }
-    ensures before { (i : ℕ) → h ≤ i → i < result → (row_at rows.now i).left.0 < a }
-    ensures there { result < length rows.now → a ≤ (row_at rows.now result).left.0 }
+    ensures before { (i : ℕ) → h ≤ i → i < result → (row_at rows.now i).left < a }
+    ensures there { result < length rows.now → a ≤ (row_at rows.now result).left }
 {
     for first in h..rows.len() {
-        if a <= rows[first].left.0 {
+        if a <= rows[first].left {
             return first;
         }
     }
@@ -128,8 +128,8 @@ fn firsts_of(rows: &[Row]) -> [u8; 65]
     requires few { length rows.now ≤ 96 }
     requires ascend { LeftsAscend rows.now }
     ensures few { (a : ℕ) → a ≤ 64 → slice_index result a ≤ length rows.now }
-    ensures before { (a h : ℕ) → a ≤ 64 → h < slice_index result a → (row_at rows.now h).left.0 < a }
-    ensures from { (a h : ℕ) → a ≤ 64 → slice_index result a ≤ h → h < length rows.now → a ≤ (row_at rows.now h).left.0 }
+    ensures before { (a h : ℕ) → a ≤ 64 → h < slice_index result a → (row_at rows.now h).left < a }
+    ensures from { (a h : ℕ) → a ≤ 64 → slice_index result a ≤ h → h < length rows.now → a ≤ (row_at rows.now h).left }
 {
     let mut firsts = [0; 65];
     let mut first = 0;
@@ -140,13 +140,15 @@ fn firsts_of(rows: &[Row]) -> [u8; 65]
     firsts
 }
 
+// A rank of 0 says that there is none: a byte a symbol, with no heap and in fixed memory.
+
 /// Whether all members of the row have a rank.
 fn are_members_ranked(row: &Row, ranks: &[u8; 64]) -> bool
     requires { IsSmall row.now }
     ensures { IsTrue result ↔ ((k : ℕ) → k < row.now.size → 1 ≤ rank ranks.now (member_of row.now k)) }
 {
     for k in 0..usize::from(row.size) {
-        if ranks[usize::from(row.members[k].0)] == 0 {
+        if ranks[usize::from(row.members[k])] == 0 {
             return false;
         }
     }
@@ -164,7 +166,7 @@ fn give_ranks(rows: &[Row], ranks: &mut [u8; 64], given: u8) -> u8
 {
     let mut last = given;
     for row in rows {
-        let left = usize::from(row.left.0);
+        let left = usize::from(row.left);
         if ranks[left] == 0 && are_members_ranked(row, ranks) {
             last += 1;
             ranks[left] = last;
@@ -234,7 +236,7 @@ fn table_of<'a>(image: &'a [u8]) -> Grammar<'a>
         ranks,
         terminals: symbols[0],
         nonterminals: symbols[1],
-        start: SymbolNo(symbols[2]),
+        start: SymbolNo(usize::from(symbols[2])),
         nonterminal_set: set_from(symbols[0], symbols[1]),
         empty_set: ranked_set(&ranks),
     }

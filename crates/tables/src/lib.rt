@@ -18,14 +18,14 @@ use paper::{RuleNo, SymbolNo};
 use std::marker::Model;
 
 // There is no heap and memory is fixed: arrays of the largest size, with how many of their places count. What bars a member is filled in once all members are
-// known, so symbols and bars are two arrays; a member without its bars would be a value half made.
+// known, so members and bars are two arrays; a member without its bars would be a value half made. `firsts` has a place more than `ranks`: the end of the last symbol's rules.
 
 /// One rule: its left symbol, how many members it has, these, and for each the members that bar it, a bit for each.
 #[derive(Clone, Copy, Debug)]
 pub struct Row {
-    pub left: SymbolNo,
+    pub left: u8,
     pub size: u8,
-    pub members: [SymbolNo; 8],
+    pub members: [u8; 8],
     pub bars: [u8; 8],
 }
 
@@ -56,6 +56,7 @@ impl<'a> Model for Grammar<'a> {
 }
 
 // That h is a rule of this grammar is a fact of two values: no type of a number alone can carry it, so it stands in each contract.
+// A reader of a row borrows the rows first: that opens the value, which says how few rules there are, before the place of one is worked out.
 impl Grammar<'_> {
     /// R, the number of rules.
     pub fn rule_count(&self) -> usize
@@ -94,7 +95,8 @@ impl Grammar<'_> {
         requires { h.0 < rule_count (grammar_of self.now) }
         ensures { result.0 ≡ left (grammar_of self.now) h.0 }
     {
-        self.rows[usize::from(h.0)].left
+        let rows = &self.rows;
+        SymbolNo(usize::from(rows[h.0].left))
     }
 
     /// How many members rule h has.
@@ -103,7 +105,8 @@ impl Grammar<'_> {
         ensures size { result ≡ length (members (grammar_of self.now) h.0) }
         ensures few { result ≤ 8 }
     {
-        usize::from(self.rows[usize::from(h.0)].size)
+        let rows = &self.rows;
+        usize::from(rows[h.0].size)
     }
 
     /// Member k of rule h.
@@ -112,7 +115,8 @@ impl Grammar<'_> {
         requires place { k < length (members (grammar_of self.now) h.0) }
         ensures { result.0 ≡ slice_index (members (grammar_of self.now) h.0) k }
     {
-        self.rows[usize::from(h.0)].members[k]
+        let rows = &self.rows;
+        SymbolNo(usize::from(rows[h.0].members[k]))
     }
 
     /// The members of rule h that bar member k, a bit for each.
@@ -121,7 +125,8 @@ impl Grammar<'_> {
         requires place { k < length (members (grammar_of self.now) h.0) }
         ensures { result ≡ bars_of (grammar_of self.now) (members (grammar_of self.now) h.0) k }
     {
-        self.rows[usize::from(h.0)].bars[k]
+        let rows = &self.rows;
+        rows[h.0].bars[k]
     }
 
     /// The nonterminals, a bit for each.
@@ -152,7 +157,7 @@ impl Grammar<'_> {
         ensures before { (h : ℕ) → h < result → left (grammar_of self.now) h < a.0 }
         ensures from { (h : ℕ) → result ≤ h → h < rule_count (grammar_of self.now) → a.0 ≤ left (grammar_of self.now) h }
     {
-        usize::from(self.firsts[usize::from(a.0)])
+        usize::from(self.firsts[a.0])
     }
 
     /// The bytes of the image.

@@ -13,10 +13,17 @@ const EMPTY: [u8; 27] = [
 ];
 
 // Rule h has this left symbol and these members, each with these bars.
-fn expect_rule(rt: &impl Abort, grammar: &Grammar, h: u8, left: u8, members: &[u8], bars: &[u8])
+fn expect_rule(
+    rt: &impl Abort,
+    grammar: &Grammar,
+    h: usize,
+    left: usize,
+    members: &[usize],
+    bars: &[u8],
+)
     requires { length members.now ≡ length bars.now }
 {
-    assert!(rt; usize::from(h) < grammar.rule_count());
+    assert!(rt; h < grammar.rule_count());
     let h = RuleNo(h);
     assert!(rt; grammar.left(h).0 == left);
     assert!(rt; grammar.size(h) == members.len());

@@ -17,9 +17,9 @@ slice_bounds-result-end c = let within = places_within c.in-Ok.ensures.outcome r
 pub returns-in-Ok-clause-outcome : goal.returns-in-Ok-clause-outcome
 returns-in-Ok-clause-outcome c =
     let part = between_is c.args.tokens.now c.in-Ok.from.0 c.in-Ok.to.0 in
-    (None, rw (c.from.ensures, c.from-in-Ok.ensures, part) c.in-Ok.ensures.outcome)
+    (None, rw part c.in-Ok.ensures.outcome)
 
 pub returns-in-Ok-clause-part : goal.returns-in-Ok-clause-part
 returns-in-Ok-clause-part c = λ refusal o.
     let places : (c.in-Ok.from.0 ≡ line_from c.args.lines.now c.args.k) × (c.in-Ok.to.0 ≡ line_to c.args.lines.now c.args.k) = c.in-Ok.ensures.places in
-    rw ((view_unique c.args.image.now c.args.tokens.now c.args.lines.now c.args.k refusal None _ _ o c.in-Ok.ensures.outcome).0, ← places.0, ← c.from.ensures) refl
+    rw ((view_unique c.args.image.now c.args.tokens.now c.args.lines.now c.args.k refusal None _ _ o c.in-Ok.ensures.outcome).0, ← places.0) refl

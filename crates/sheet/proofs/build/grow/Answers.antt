@@ -9,13 +9,13 @@ use Rattle.sheet.proofs.build.grow.Goals.{then-j-gt0+in_ok-advance, else-j-gt0}
 pub advance-requires-clause-reaches : goal.advance-requires-clause-reaches
 advance-requires-clause-reaches c =
     let place = c.requires.state.place_le in
-    token_reaches _ c.args.input.now.tokens.now c.args.lists.now.place c.from.result (omega arith) (omega arith) c.from.ensures
+    rw c.from-then-j-gt0.ensures (token_reaches _ c.args.input.now.tokens.now c.args.lists.now.place c.from.result (omega arith) (omega arith) c.from.ensures)
 
 pub loop-i-init : goal.loop-i-init
 loop-i-init c =
     elim c.if-j-gt0.branch [
       | then-j-gt0+in_ok-advance w ↦ rw (w.words-is, w.lists-is) (record {
-        underway = underway_token w.if-j-gt0.true w.from.ensures w.in_ok-advance.ensures.grown w.in_ok-advance.ensures.advanced;
+        underway = underway_token w.if-j-gt0.true w.from.ensures w.in_ok-advance.ensures.grown (rw w.from-then-j-gt0.ensures at w.in_ok-advance.ensures.advanced);
         ongoing = ongoing_token w.in_ok-advance.ensures.staged w.in_ok-advance.ensures.stays w.in_ok-advance.ensures.low;
       })
       | else-j-gt0 w ↦ rw (w.words-is, w.lists-is) (record { underway = underway_none w.if-j-gt0.false c.requires.state; ongoing = ongoing_none c.requires.none })

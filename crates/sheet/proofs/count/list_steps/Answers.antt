@@ -17,7 +17,7 @@ returns-then-j-input c =
 pub overflow_add-result : goal.overflow_add-result
 overflow_add-result c =
     let fit = c.args.input.now.fits in
-    omega (arith, c.predict_steps.ensures, c.complete_steps.ensures, predict_few fit c.args.j, complete_few fit c.args.j, c.waiting.ensures, waiting_few fit c.args.j (get_or c.args.input.now.tokens.now c.args.j 0))
+    omega (arith, c.predict_steps.ensures, c.complete_steps.ensures, predict_few fit c.args.j, complete_few fit c.args.j, rw c.from.ensures at c.waiting.ensures, waiting_few fit c.args.j (get_or c.args.input.now.tokens.now c.args.j 0))
 
 pub returns : goal.returns
 returns c =
@@ -26,7 +26,7 @@ returns c =
       arith,
       c.predict_steps.ensures,
       c.complete_steps.ensures,
-      c.waiting.ensures,
+      rw c.from.ensures at c.waiting.ensures,
       steps_sum (grammar_of c.args.input.now.grammar.now) c.args.input.now.tokens.now c.args.j,
       scan_here fit c.args.j (omega (arith, c.requires.place, c.if-j-input.false)),
     )

@@ -1,8 +1,8 @@
-use Rattle.std.proofs.Common.{arith}
+use Rattle.std.proofs.Common.{sym, ◌∙◌, arith}
 use Rattle.sheet.proofs.Advancing.{advancing_none, advanced_all, at_within, cell_read, advancing_past, taken_found, advancing_more}
 use Rattle.sheet.proofs.Sourcing.{sourcing_none, sourcing_reason, sourcing_more, base_same}
 use Rattle.sheet.proofs.grow.advance.Goals as goal
-use Rattle.sheet.proofs.grow.advance.Goals.{in-Some+in_ok-insert, in_default, then-entry-i, else-entry-i}
+use Rattle.sheet.proofs.grow.advance.Goals.{in-Some+in_ok-insert, in_default, then-entry-from, else-entry-from}
 
 pub loop-at-init : goal.loop-at-init
 loop-at-init c = record {
@@ -41,7 +41,7 @@ insert-requires-clause-reason c =
     (omega (arith, c.of_word-entry.type_inv)) (omega (arith, c.of_word-entry.type_inv)) c.of_word-entry.ensures in
     sourcing_reason c.loop-at.invariant.sourcing c.loop-at.invariant.advancing.grown c.requires.earlier c.from-from.ensures read c.loop-at-test.true
     (omega (arith, c.of_word-entry.type_inv)) (omega (arith, c.of_word-entry.type_inv)) c.of_word-entry.ensures c.in-Some.ensures.left
-    (λ e. elim c.if-entry-i.branch [ then-entry-i w ↦ w.stage-is | else-entry-i w ↦ absurd (w.if-entry-i.false e) ])
+    (λ e. elim c.if-entry-from.branch [ then-entry-from w ↦ w.stage-is | else-entry-from w ↦ absurd (w.if-entry-from.false (e ∙ sym c.from-from.ensures)) ])
 
 pub loop-at-preserved : goal.loop-at-preserved
 loop-at-preserved c =
@@ -53,8 +53,8 @@ loop-at-preserved c =
           record {
             sourcing = sourcing_more c.loop-at.invariant.sourcing w.in_ok-insert.ensures.staged w.in_ok-insert.ensures.stays w.in_ok-insert.ensures.puts
                 (base_same 0 c.args.i c.loop-at.invariant.advancing.grown) w.in_ok-insert.ensures.grown.place_is (omega (arith, c.loop-at.invariant.advancing.grown.place_is, c.requires.earlier)) read.origin_le
-                (λ e. elim w.if-entry-i.branch [ then-entry-i v ↦ v.stage-is | else-entry-i v ↦ absurd (v.if-entry-i.false e) ])
-                (λ ne. elim w.if-entry-i.branch [ then-entry-i v ↦ absurd (ne v.if-entry-i.true) | else-entry-i v ↦ v.stage-is ]);
+                (λ e. elim w.if-entry-from.branch [ then-entry-from v ↦ v.stage-is | else-entry-from v ↦ absurd (v.if-entry-from.false (e ∙ sym c.from-from.ensures)) ])
+                (λ ne. elim w.if-entry-from.branch [ then-entry-from v ↦ absurd (ne (v.if-entry-from.true ∙ c.from-from.ensures)) | else-entry-from v ↦ v.stage-is ]);
             advancing = advancing_more c.loop-at.invariant.advancing read c.requires.reaches w.in-Some.ensures.left
                 w.in_ok-insert.ensures.grown w.in_ok-insert.ensures.has;
           })

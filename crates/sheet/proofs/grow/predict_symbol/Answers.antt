@@ -15,7 +15,7 @@ insert-requires-clause-found c =
     let rule : c.loop-h.h < rule_count (grammar_of c.args.input.now.grammar.now) = omega (arith, c.loop-h-test.true, c.first-h-end.ensures.few) in
     let of_x : left (grammar_of c.args.input.now.grammar.now) c.loop-h.h ≡ c.args.x.0 =
     omega (arith, c.first-h.ensures.from c.loop-h.h c.loop-h.auto.h rule, c.first-h-end.ensures.before c.loop-h.h c.loop-h-test.true) in
-    rw c.full.ensures.value (rule_found c.loop-h.invariant.rules rule c.requires.state c.requires.looked_for of_x)
+    rw (c.from.ensures, c.full.ensures.value) (rule_found c.loop-h.invariant.rules rule c.requires.state c.requires.looked_for of_x)
 
 pub insert-requires-clause-reason : goal.insert-requires-clause-reason
 insert-requires-clause-reason c = Reason.fresh c.full.ensures.value
@@ -25,7 +25,7 @@ loop-h-preserved c =
     let rule : c.loop-h.h < rule_count (grammar_of c.args.input.now.grammar.now) = omega (arith, c.loop-h-test.true, c.first-h-end.ensures.few) in
     let place = c.args.lists.now.place in
     record {
-      rules = rules_more c.loop-h.invariant.rules rule c.in_ok-insert.ensures.grown (rw c.full.ensures.value at c.in_ok-insert.ensures.has);
+      rules = rules_more c.loop-h.invariant.rules rule (rw c.from.ensures at c.in_ok-insert.ensures.grown) (rw (c.from.ensures, c.full.ensures.value) at c.in_ok-insert.ensures.has);
       kept = kept_more c.loop-h.invariant.kept (base_same place place c.loop-h.invariant.rules.grown) c.in_ok-insert.ensures.staged c.in_ok-insert.ensures.stays;
     }
 

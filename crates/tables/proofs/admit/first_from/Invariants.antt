@@ -3,4 +3,4 @@ use Rattle.tables.specs.Table.{row_at}
 use Rattle.tables.proofs.admit.first_from.Given as goal
 
 abbrev pub invariant-loop-first : goal.invariant-loop-first
-invariant-loop-first l = (i : ℕ) → l.h ≤ i → i < l.first → (row_at l.rows i).left.0 < l.a
+invariant-loop-first l = (i : ℕ) → l.h ≤ i → i < l.first → (row_at l.rows i).left < l.a

@@ -36,7 +36,7 @@ invariant_of-result c =
       ranked = ranked_is is front size f.front given c.ranks_of-ranks.ensures.closed;
       terminals_are = terminals;
       nonterminals_are = nonterminals;
-      start_is = ap (λ s. get_or s 2 0) c.body-symbols.ensures;
+      start_is = c.from.ensures ∙ ap (λ s. get_or s 2 0) c.body-symbols.ensures;
       nonterminals_in = nonterminals_are (grammar_of c.args.image.now) _ _ c.set_from.result terminals nonterminals c.set_from.ensures;
       empties_in = empties is front size f.front given c.ranks_of-ranks.ensures.closed c.ranked_set.result c.ranked_set.ensures;
     }
