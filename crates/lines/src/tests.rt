@@ -2,7 +2,7 @@
 
 use crate::bracket::bracket;
 use crate::calls::check;
-use crate::view::{view, view_refusal};
+use crate::view::{view, view_number, view_refusal};
 use paper::Refusal;
 
 const HOUSE: [u8; 36] = [
@@ -87,11 +87,13 @@ fn views_the_words_under_a_line(rt: HostRuntime) {
     assert_eq!(rt; view(&HOUSE, &tokens, &PLATE, 0), &tokens[..2]);
     assert_eq!(rt; view(&HOUSE, &tokens, &PLATE, 1), &tokens[2..]);
     assert_eq!(rt; view_refusal(&HOUSE, &tokens, &PLATE, 1), None);
+    assert_eq!(rt; view_number(&HOUSE, &tokens, &PLATE, 1), 0);
     assert_eq!(rt; view(&HOUSE, &tokens, &PLATE, 3), &tokens[..0]);
     assert_eq!(rt;
         view_refusal(&HOUSE, &tokens, &PLATE, 3),
         Some(Refusal::NoLine)
     );
+    assert_eq!(rt; view_number(&HOUSE, &tokens, &PLATE, 3), 32);
 }
 
 // Symbol k has eight times symbol k + 1 for its members, and the last of 24 has none.

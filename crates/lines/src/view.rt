@@ -3,7 +3,7 @@
 ghost use Rattle.std.specs.Prelude.{◌≡◌, List, ℕ, Option, IfOk};
 ghost use Rattle.std.specs.Result.{result_err};
 ghost use Rattle.paper.specs.Lines.{line_from, line_to};
-ghost use Rattle.paper.specs.Outcome.{ViewOutcome};
+ghost use Rattle.paper.specs.Outcome.{ViewOutcome, view_number};
 ghost use Rattle.paper.specs.declared.Refusal.{Refusal};
 ghost use Rattle.lines.specs.View.{part_between, view_from, bytes_on};
 
@@ -48,4 +48,14 @@ pub fn view_refusal(image: &[u8], tokens: &[u8], lines: &[u16], k: usize) -> Opt
     ensures { (view : List ℕ) × ViewOutcome image.now tokens.now lines.now k result view }
 {
     view_places(image, tokens, lines, k).err()
+}
+
+/// The number of a view: that of its refusal, or 0 if it is accepted.
+pub fn view_number(image: &[u8], tokens: &[u8], lines: &[u16], k: usize) -> u8
+    ensures { (refusal : Option Refusal) × (view : List ℕ) × ViewOutcome image.now tokens.now lines.now k refusal view × (result ≡ view_number refusal) }
+{
+    match view_refusal(image, tokens, lines, k) {
+        None => 0,
+        Some(why) => why.number(),
+    }
 }
