@@ -9,7 +9,7 @@ use native.Mathlib.Omega.{arith}
 use lib.ListN.{length, drop, length-drop, get_or-eq_default}
 use lib.Seq.{length-take-le, get_or-take, get_or-drop}
 use Rattle.paper.specs.Grammar.{Grammar, rule_count, rule_at, StrictPartialOrder, IsGrammar}
-use Rattle.paper.specs.Image.{byte, kind, offset, extent, body, contents_right, symbols_right, rules_fault, pair_fault, closing_fault}
+use Rattle.paper.specs.Image.{byte, two_bytes, kind, offset, extent, body, contents_right, symbols_right, rules_fault, pair_fault, closing_fault}
 use Rattle.paper.specs.Image.{image_terminals, image_symbols, image_pairs, image_fault, grammar_of, house, pairs_of, rules_of, rule_of, paired}
 use Rattle.paper.specs.Image.{record_fault, record_right, ascends, all_below, record_before, chained}
 use Rattle.paper.specs.Records.{record_at}
@@ -185,6 +185,10 @@ body_byte b k i l = grind (arith, get_or-take, get_or-drop)
 -- a byte, and so is the 0 past the end
 pub byte_below : (b : List ℕ) → AreBytes b → (k : ℕ) → byte b k < 256
 byte_below b h k = grind (arith, get_or-eq_default)
+
+-- an offset or a length is below 65,536
+pub two_bytes_below : (b : List ℕ) → AreBytes b → (k : ℕ) → two_bytes b k < 65536
+two_bytes_below b h k = omega (arith, byte_below b h k, byte_below b h (k + 1))
 
 -- an image whose contents are right ends where the last offset and length say
 pub contents_length : (b : List ℕ) → AreBytes b → RightContents b → length b ≤ 131070

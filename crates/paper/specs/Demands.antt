@@ -123,20 +123,20 @@ LinesBound = (g : Grammar) (row lines : List ℕ) → IsGrammar g → Valid g ro
 
 -- ---- two permitted outcomes are equal
 
--- The checker's judgement of lines is one.
+-- The checker's judgement of lines is one (L5).
 abbrev pub JudgedUnique : Type 0
 JudgedUnique = (g : Grammar) (row lines : List ℕ) (x y : Option ℕ) → Judged g row lines x → Judged g row lines y → x ≡ y
 
--- The checker answers one thing.
+-- The checker answers one thing (R1, L5).
 abbrev pub CheckingUnique : Type 0
 CheckingUnique = (image row lines : List ℕ) (x y : Result (Option ℕ) Refusal) → CheckingOutcome image row lines x → CheckingOutcome image row lines y → x ≡ y
 
--- The bracket writer answers one thing, and leaves one thing in its buffer.
+-- The bracket writer answers one thing, and leaves one thing in its buffer (R1 to R3).
 abbrev pub BracketingUnique : Type 0
 BracketingUnique = (image row lines entry : List ℕ) (x y : Result ℕ Refusal) (s t : List ℕ) → BracketingOutcome image row lines entry x s → BracketingOutcome image row lines entry y t
     → (x ≡ y) × (s ≡ t)
 
--- The view of line k is one, and so is the refusal whose number the call beside it gives.
+-- The view of line k is one, and so is the refusal whose number the call beside it gives (R5).
 abbrev pub ViewUnique : Type 0
 ViewUnique = (image row lines : List ℕ) (k : ℕ) (x y : Option Refusal) (s t : List ℕ) → ViewOutcome image row lines k x s → ViewOutcome image row lines k y t → (x ≡ y) × (s ≡ t)
 
@@ -159,7 +159,7 @@ pub record SameReading (g : Grammar) (row : List ℕ) (x y : Result Reading Refu
   -- so they are where there is one valid set of lines
   pub settled : OneWay g row → (x ≡ y) × (s ≡ t)
 
--- Reading answers one thing and leaves one thing in its buffers, the lines of a row that is read apart.
+-- Reading answers one thing and leaves one thing in its buffers, the lines of a row that is read apart (R1 to R4).
 abbrev pub ReadingUnique : Type 0
 ReadingUnique = (image row : List ℕ) (entry : Buffers) (x y : Result Reading Refusal) (s t : Buffers) → ReadingOutcome image row entry x s → ReadingOutcome image row entry y t
     → SameReading (grammar_of image) row x y s t

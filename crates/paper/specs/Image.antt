@@ -179,7 +179,7 @@ image_symbols b = byte (body b 0) 0 + byte (body b 0) 1
 abbrev pub image_pairs : List ℕ → List Pair
 image_pairs b = pairs_of (body b 2)
 
--- the first of 10 to 14 that holds, in the order of the table
+-- the first of 10 to 14 that holds, in the order of the table (R1)
 unfoldable pub image_fault : List ℕ → Option Fault
 image_fault b =
     refuse Refusal.Contents (wrong_if (contents_right b))

@@ -28,11 +28,11 @@ first_of (Some why ∷ more) = Some why
 abbrev pub image_refusal : List ℕ → Option Refusal
 image_refusal image = option_map (λ fault. fault.why) (image_fault image)
 
--- 20, for a row of n tokens
+-- 20, for a row of n tokens (R1)
 abbrev pub too_long : ℕ → Option Refusal
 too_long n = if_holds Refusal.LongRow (ltb 64 n)
 
--- 21, for a row and a grammar
+-- 21, for a row and a grammar (R1)
 abbrev pub strange : Grammar → List ℕ → Option Refusal
 strange g row = if_holds Refusal.StrangeToken (not (all_below g.terminals row))
 
