@@ -87,13 +87,27 @@ fn views_the_words_under_a_line(rt: HostRuntime) {
     assert_eq!(rt; view(&HOUSE, &tokens, &PLATE, 0), &tokens[..2]);
     assert_eq!(rt; view(&HOUSE, &tokens, &PLATE, 1), &tokens[2..]);
     assert_eq!(rt; view_refusal(&HOUSE, &tokens, &PLATE, 1), None);
-    assert_eq!(rt; view_number(&HOUSE, &tokens, &PLATE, 1), 0);
     assert_eq!(rt; view(&HOUSE, &tokens, &PLATE, 3), &tokens[..0]);
     assert_eq!(rt;
         view_refusal(&HOUSE, &tokens, &PLATE, 3),
         Some(Refusal::NoLine)
     );
+}
+
+#[test]
+fn numbers_a_view(rt: HostRuntime) {
+    let tokens = [3, 1, 1, 0, 2];
+    assert_eq!(rt; view_number(&HOUSE, &tokens, &PLATE, 0), 0);
+    assert_eq!(rt; view_number(&HOUSE, &tokens, &PLATE, 2), 0);
     assert_eq!(rt; view_number(&HOUSE, &tokens, &PLATE, 3), 32);
+    // A number too few, and no lines.
+    assert_eq!(rt; view_number(&HOUSE, &tokens, &PLATE[..35], 0), 30);
+    assert_eq!(rt; view_number(&HOUSE, &tokens, &[], 0), 30);
+    // Tokens of 3 are terminals, and 64 of them pass.
+    assert_eq!(rt; view_number(&HOUSE, &[3; 64], &PLATE, 0), 30);
+    assert_eq!(rt; view_number(&HOUSE, &[4], &PLATE, 0), 21);
+    assert_eq!(rt; view_number(&HOUSE, &[4; 65], &PLATE, 0), 20);
+    assert_eq!(rt; view_number(&HOUSE[..35], &tokens, &PLATE, 0), 10);
 }
 
 // Symbol k has eight times symbol k + 1 for its members, and the last of 24 has none.

@@ -4,7 +4,7 @@ ghost use Rattle.std.specs.Prelude.{◌≡◌, ◌+◌, ◌*◌, ◌<◌};
 
 use paper::{Place, RuleNo};
 
-/// An entry of the sheet: a rule, an origin, and a byte with a bit for each member still to be found.
+/// An entry of the sheet: a rule, an origin, and a byte with a bit for each member still to be found. A word has eight bits for each of the three.
 #[derive(Clone, Copy, Debug, PartialEq, Eq)]
 pub struct Entry {
     pub rule: RuleNo,

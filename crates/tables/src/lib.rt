@@ -6,7 +6,7 @@ ghost use Rattle.paper.specs.Image.{grammar_of, image_fault};
 ghost use Rattle.paper.specs.Bits.{bit_at};
 ghost use Rattle.paper.specs.Derivation.{Derives};
 ghost use Rattle.paper.specs.Grammar.{IsNonterminal, rule_count, left, members, symbols, IsGrammar};
-ghost use Rattle.tables.specs.Table.{bars_of, Ranked};
+ghost use Rattle.tables.specs.Table.{bars_of, IsRowOf, Ranked};
 
 mod admit;
 pub mod input;
@@ -18,7 +18,8 @@ use paper::{RuleNo, SymbolNo};
 use std::marker::Model;
 
 // There is no heap and memory is fixed: arrays of the largest size, with how many of their places count. What bars a member is filled in once all members are
-// known, so members and bars are two arrays; a member without its bars would be a value half made. `firsts` has a place more than `ranks`: the end of the last symbol's rules.
+// known, so members and bars are two arrays; a member without its bars would be a value half made. `firsts` has a place more than `ranks`: where the last
+// symbol's rules end.
 
 /// One rule: its left symbol, how many members it has, these, and for each the members that bar it, a bit for each.
 #[derive(Clone, Copy, Debug)]
@@ -56,7 +57,6 @@ impl<'a> Model for Grammar<'a> {
 }
 
 // That h is a rule of this grammar is a fact of two values: no type of a number alone can carry it, so it stands in each contract.
-// A reader of a row borrows the rows first: that opens the value, which says how few rules there are, before the place of one is worked out.
 impl Grammar<'_> {
     /// R, the number of rules.
     pub fn rule_count(&self) -> usize
@@ -90,13 +90,23 @@ impl Grammar<'_> {
         self.start
     }
 
+    /// The row of rule h.
+    fn row(&self, h: RuleNo) -> &Row
+        requires { h.0 < rule_count (grammar_of self.now) }
+        ensures row { IsRowOf (grammar_of self.now) h.0 result.now }
+        ensures few { result.now.size ≤ 8 }
+    {
+        // Borrowed first: that opens the value, which says how few rules there are, before the place of one is worked out.
+        let rows = &self.rows;
+        &rows[h.0]
+    }
+
     /// The left symbol of rule h.
     pub fn left(&self, h: RuleNo) -> SymbolNo
         requires { h.0 < rule_count (grammar_of self.now) }
         ensures { result.0 ≡ left (grammar_of self.now) h.0 }
     {
-        let rows = &self.rows;
-        SymbolNo(usize::from(rows[h.0].left))
+        SymbolNo(usize::from(self.row(h).left))
     }
 
     /// How many members rule h has.
@@ -105,8 +115,7 @@ impl Grammar<'_> {
         ensures size { result ≡ length (members (grammar_of self.now) h.0) }
         ensures few { result ≤ 8 }
     {
-        let rows = &self.rows;
-        usize::from(rows[h.0].size)
+        usize::from(self.row(h).size)
     }
 
     /// Member k of rule h.
@@ -115,8 +124,7 @@ impl Grammar<'_> {
         requires place { k < length (members (grammar_of self.now) h.0) }
         ensures { result.0 ≡ slice_index (members (grammar_of self.now) h.0) k }
     {
-        let rows = &self.rows;
-        SymbolNo(usize::from(rows[h.0].members[k]))
+        SymbolNo(usize::from(self.row(h).members[k]))
     }
 
     /// The members of rule h that bar member k, a bit for each.
@@ -125,8 +133,7 @@ impl Grammar<'_> {
         requires place { k < length (members (grammar_of self.now) h.0) }
         ensures { result ≡ bars_of (grammar_of self.now) (members (grammar_of self.now) h.0) k }
     {
-        let rows = &self.rows;
-        rows[h.0].bars[k]
+        self.row(h).bars[k]
     }
 
     /// The nonterminals, a bit for each.
